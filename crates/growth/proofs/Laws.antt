@@ -1,0 +1,65 @@
+-- The laws of G and H that callers use, each proved once over the shift. Up to the limit G and H are the sums, which grow with y and have 2^24 as
+-- their first term; above it they are 0. So the value at the limit, which is computed, caps them at every y.
+-- Assumes nothing.
+use Prim.Native.Nat.{ℕ, _+_, _*_, _^_, _≤_, _<_}
+use mathlib.Core.Path.{_≡_}
+use native.Mathlib.Nat.{le-refl, le-trans, le-add-right, lt-of-not-le}
+use native.Mathlib.Decide.{decLe}
+use native.Mathlib.Omega.{arith}
+use lib.Dec.{lit≤}
+use Rattle.growth.specs.Growth.{exponentLimit, ceilDiv, term, termSum, growthSum, growth, G, H, exactSum, WithinBound}
+use Rattle.growth.proofs.Error.{growthSum-bound}
+use Rattle.growth.proofs.Terms.{growthSum-mono, growthSum-unit, growth-within, growth-above}
+
+growth-mono : (s a b : ℕ) → a ≤ b → b ≤ exponentLimit → growth s a ≤ growth s b
+growth-mono s a b more within =
+    rw (growth-within s a (le-trans more within), growth-within s b within) (growthSum-mono s a b more)
+
+growth-unit : (s y : ℕ) → y ≤ exponentLimit → 2 ^ 24 ≤ growth s y
+growth-unit s y within = rw (growth-within s y within) (growthSum-unit s y)
+
+growth-most : (s y : ℕ) → growth s y ≤ growth s exponentLimit
+growth-most s y = at (decLe y exponentLimit)
+  where
+    at : Dec (y ≤ exponentLimit) → growth s y ≤ growth s exponentLimit
+    at (yes within) = growth-mono s y exponentLimit within (le-refl exponentLimit)
+    at (no not) = rw (growth-above s y (lt-of-not-le not)) (omega arith)
+
+-- "Each is at least 2^24 times the exact sum of the same 33 series terms, and less than 64 above it."
+pub growth-bound : (shift y : ℕ) → y ≤ 2 ^ 26 → WithinBound (growthSum shift y) (exactSum shift y)
+growth-bound = growthSum-bound
+
+pub G-mono : (a b : ℕ) → a ≤ b → b ≤ 2 ^ 26 → G a ≤ G b
+unfolding G
+G-mono = growth-mono 0
+
+pub H-mono : (a b : ℕ) → a ≤ b → b ≤ 2 ^ 26 → H a ≤ H b
+unfolding H
+H-mono = growth-mono 1
+
+pub G-sum : (a b : ℕ) → a + b ≤ 2 ^ 26 → G a ≤ G (a + b)
+G-sum a b = G-mono a (a + b) (le-add-right a b)
+
+pub G-unit : (y : ℕ) → y ≤ 2 ^ 26 → 2 ^ 24 ≤ G y
+unfolding G
+G-unit = growth-unit 0
+
+pub H-unit : (y : ℕ) → y ≤ 2 ^ 26 → 2 ^ 24 ≤ H y
+unfolding H
+H-unit = growth-unit 1
+
+pub G-none : (y : ℕ) → 2 ^ 26 < y → G y ≡ 0
+unfolding G
+G-none = growth-above 0
+
+pub H-none : (y : ℕ) → 2 ^ 26 < y → H y ≡ 0
+unfolding H
+H-none = growth-above 1
+
+pub G-cap : (y : ℕ) → G y ≤ 55 * 2 ^ 24
+unfolding G growth growthSum termSum term ceilDiv
+G-cap y = le-trans (growth-most 0 y) (lit≤ tt)
+
+pub H-cap : (y : ℕ) → H y ≤ 14 * 2 ^ 24
+unfolding H growth growthSum termSum term ceilDiv
+H-cap y = le-trans (growth-most 1 y) (lit≤ tt)

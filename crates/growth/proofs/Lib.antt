@@ -1,0 +1,4 @@
+mod Error
+pub mod Examples
+pub mod Laws
+mod Terms

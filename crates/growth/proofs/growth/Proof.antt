@@ -1,0 +1,92 @@
+-- `growth::growth` meets its contract. The loop's invariant: `term` is the term k, and `sum` the sum of the terms up to it. Every such sum is below
+-- the cap of `Terms.antt`, which keeps each product and sum within 64 bits. The measure is the number of terms left.
+-- Assumes nothing.
+use mathlib.Core.Path.{_≡_, refl, sym, _∙_}
+use Prim.Native.Nat.{ℕ, _+_, _-_, _*_, _^_, _≤_, _<_}
+use native.Mathlib.Nat.{le-trans, le-of-eq, mul-le-mul}
+use native.Mathlib.Numerals.{add-one}
+use native.Mathlib.Omega.{arith}
+use Rattle.growth.specs.Growth.{unit, exponentLimit, lastTerm, ceilDiv, term, termSum, growthSum}
+use Rattle.growth.proofs.Terms.{term-le-sum, termSum-cap, growth-within, growth-above}
+use Rattle.growth.proofs.growth.Statement.{statement}
+use Rattle.growth.proofs.growth.Tie as tie
+
+-- t is the term k, and sum the sum of the terms 0 to k
+abbrev UpTo : (s y t sum k : ℕ) → Type 0
+UpTo s y t sum k = (k ≤ lastTerm) × (t ≡ term s y k) × (sum ≡ termSum s y k)
+
+up-to-next : (s y t sum k r : ℕ) → k < lastTerm → UpTo s y t sum k → r ≡ ceilDiv (t * y) ((k + 1 + s) * unit) → UpTo s y r (sum + r) (k + 1)
+unfolding term termSum
+up-to-next s y t sum k r more at given =
+    let next : r ≡ term s y (k + 1) = rw (given, at .1, add-one k) in
+    (omega arith, next, rw (at .2, next, add-one k))
+
+product-cap : (s y t sum k : ℕ) → y ≤ exponentLimit → UpTo s y t sum k → t * y ≤ 55 * 2 ^ 50
+product-cap s y t sum k within at =
+    mul-le-mul (le-trans (le-of-eq (at .1)) (le-trans (term-le-sum s y k) (termSum-cap s y k (at .0) within))) within
+
+sum-cap : (s y t sum k : ℕ) → y ≤ exponentLimit → UpTo s y t sum k → sum ≤ 55 * 2 ^ 24
+sum-cap s y t sum k within at = le-trans (le-of-eq (at .2)) (termSum-cap s y k (at .0) within)
+
+abbrev Inv-loop : tie.InvT-loop
+Inv-loop shift y term₀ sum₀ k₀ t sum k = UpTo shift y t sum k
+
+abbrev μ-loop : tie.MeasureT-loop
+μ-loop shift y term₀ sum₀ k₀ t sum k = lastTerm - k
+
+returns : tie.Need-returns Inv-loop μ-loop
+returns c = omega (arith, growth-above (c .before .args .shift) (c .before .args .y) (omega arith))
+
+loop-holds : tie.Need-loop-holds Inv-loop μ-loop
+unfolding term termSum
+loop-holds c = (omega arith, refl, refl)
+
+add-k : tie.Need-add-k Inv-loop μ-loop
+add-k c = omega arith
+
+mul-ceil-div : tie.Need-mul-ceil-div Inv-loop μ-loop
+mul-ceil-div c = omega (arith, product-cap _ _ _ _ _ (omega arith) (c .before .loop .inv))
+
+add-ceil-div : tie.Need-add-ceil-div Inv-loop μ-loop
+add-ceil-div c = omega arith
+
+mul-ceil-div-2 : tie.Need-mul-ceil-div-2 Inv-loop μ-loop
+mul-ceil-div-2 c = omega arith
+
+ceil-div-requires : tie.Need-ceil-div-requires Inv-loop μ-loop
+ceil-div-requires c κs = omega (arith, product-cap _ _ _ _ _ (omega arith) (c .before .loop .inv))
+
+add-sum : tie.Need-add-sum Inv-loop μ-loop
+add-sum c =
+    let at-loop = c .before .before in
+    omega (arith, sum-cap _ _ _ _ _ (omega arith) (up-to-next _ _ _ _ _ _ (omega arith) (at-loop .loop .inv) (c .ceil-div .ensures)))
+
+loop-less : tie.Need-loop-less Inv-loop μ-loop
+loop-less c = omega arith
+
+loop-again : tie.Need-loop-again Inv-loop μ-loop
+loop-again c = up-to-next _ _ _ _ _ _ (omega arith) (c .before .before .loop .inv) (c .ceil-div .ensures)
+
+returns-2 : tie.Need-returns-2 Inv-loop μ-loop
+unfolding growthSum
+returns-2 c =
+    let at-end : c .before .loop .k ≡ lastTerm = omega arith in
+    rw at-end at (c .before .loop .inv .2) ∙ sym (growth-within _ _ (omega arith))
+
+pub growth-spec : {M : Type 1} → statement M
+growth-spec =
+    tie.close
+    (tie.spec
+    Inv-loop
+    μ-loop
+    returns
+    loop-holds
+    add-k
+    mul-ceil-div
+    add-ceil-div
+    mul-ceil-div-2
+    ceil-div-requires
+    add-sum
+    loop-less
+    loop-again
+    returns-2)

@@ -1,0 +1,51 @@
+// The growth sums G and H of document 01, in units of 2^-24. They know nothing of tasks or marks.
+ghost use mathlib.Core.Path.{_≡_};
+ghost use Prim.Native.Nat.{_+_, _<_, _≤_, _^_};
+ghost use Rattle.growth.specs.Growth;
+
+const UNIT: u64 = 1 << 24;
+
+const EXPONENT_LIMIT: u64 = 1 << 26;
+
+const LAST_TERM: u64 = 32;
+
+// n / d rounded up.
+fn ceil_div(n: u64, d: u64) -> u64
+    requires { ⌜ (0 < d) × (n + d < 2 ^ 64) ⌝ }
+    ensures { λ r. ⌜ r ≡ Growth.ceilDiv n d ⌝ }
+{
+    (n + (d - 1)) / d
+}
+
+// Both sums: they differ in the divisor's shift alone, 0 for G and 1 for H.
+fn growth(shift: u64, y: u64) -> u64
+    requires { ⌜ shift ≤ 1 ⌝ }
+    ensures { λ r. ⌜ r ≡ Growth.growth shift y ⌝ }
+{
+    if EXPONENT_LIMIT < y {
+        return 0;
+    }
+    let mut term = UNIT;
+    let mut sum = UNIT;
+    let mut k = 0;
+    while k < LAST_TERM {
+        k += 1;
+        term = ceil_div(term * y, (k + shift) * UNIT);
+        sum += term;
+    }
+    sum
+}
+
+// G(y): e^z in units of 2^-24, z = y / 2^24.
+pub fn g(y: u64) -> u64
+    ensures { λ r. ⌜ r ≡ Growth.G y ⌝ }
+{
+    growth(0, y)
+}
+
+// H(y): (e^z - 1) / z in units of 2^-24, z = y / 2^24.
+pub fn h(y: u64) -> u64
+    ensures { λ r. ⌜ r ≡ Growth.H y ⌝ }
+{
+    growth(1, y)
+}

@@ -1,0 +1,70 @@
+use Prim.Native.Nat.{ℕ, _+_, _-_, _≤_, _<_}
+use mathlib.Core.Path.{_≡_, refl, sym, _∙_}
+use mathlib.Core.Bool.{false, or-true}
+use native.Mathlib.Omega.{arith}
+use borrow.Author.Needs.{needs}
+use borrow.Author.Tests.{ne-eqb, eq-eqb, lt-ltb, le-ltb}
+use lib.Dec.{ltb}
+use lib.ListN.{length, getD}
+use Rattle.sheet.specs.Job.{some}
+use Rattle.sheet.proofs.Tables.{some-holds, some-more}
+use Rattle.marks.specs.Marks.{highestMark, badMarks}
+use Rattle.marks.proofs.bad_marks.Statement.{statement}
+use Rattle.marks.proofs.bad_marks.Tie as tie
+
+abbrev Inv-loop : tie.InvT-loop
+Inv-loop n marks j₀ j = (j ≤ n) × (some j (λ i. ltb highestMark (getD marks i 0)) ≡ false)
+
+abbrev μ-loop : tie.MeasureT-loop
+μ-loop n marks j₀ j = n - j
+
+returns : tie.Need-returns Inv-loop μ-loop
+unfolding badMarks
+returns c = rw (ne-eqb _ _ (c .if1 .taken))
+
+loop-holds : tie.Need-loop-holds Inv-loop μ-loop
+unfolding some
+loop-holds c = (search needs, refl)
+
+shared-slice-read-if2 : tie.Need-shared-slice-read-if2 Inv-loop μ-loop
+shared-slice-read-if2 c = omega arith
+
+returns-2 : tie.Need-returns-2 Inv-loop μ-loop
+unfolding badMarks
+returns-2 c = rw (some-holds (c .before .before .before .before .before .args .n) (λ i. ltb highestMark (getD (c .before .before .before .before .before .args .marks .now) i 0)) (c .before .before .before .loop .j) (omega arith) (lt-ltb _ _ (c .if2 .taken)), or-true)
+
+add-j : tie.Need-add-j Inv-loop μ-loop
+add-j c = omega arith
+
+loop-less : tie.Need-loop-less Inv-loop μ-loop
+loop-less c = omega arith
+
+loop-again : tie.Need-loop-again Inv-loop μ-loop
+loop-again c = (omega arith, some-more (c .before .before .before .loop .j) _ (c .before .before .before .loop .inv .1) (le-ltb _ _ (c .if2 .left)))
+
+sub-result : tie.Need-sub-result Inv-loop μ-loop
+sub-result c = omega arith
+
+shared-slice-read-result : tie.Need-shared-slice-read-result Inv-loop μ-loop
+shared-slice-read-result c = omega arith
+
+returns-3 : tie.Need-returns-3 Inv-loop μ-loop
+unfolding badMarks
+returns-3 c = let e : c .before .before .loop .j ≡ c .before .before .before .before .args .n = omega arith in rw (eq-eqb _ _ (c .before .before .before .if1 .left), ← e, c .before .before .loop .inv .1)
+
+pub bad-marks-spec : {M : Type 1} → statement M
+bad-marks-spec =
+    tie.close
+    (tie.spec
+    Inv-loop
+    μ-loop
+    returns
+    loop-holds
+    shared-slice-read-if2
+    returns-2
+    add-j
+    loop-less
+    loop-again
+    sub-result
+    shared-slice-read-result
+    returns-3)

@@ -1,0 +1,27 @@
+use mathlib.Core.Path.{sym, _∙_}
+use Rattle.sheet.specs.Refusal.{first}
+use borrow.Author.Needs.{needs}
+use Rattle.marks.proofs.marks_refusal.Statement.{statement}
+use Rattle.marks.proofs.marks_refusal.Tie as tie
+
+bad-marks-requires : tie.Need-bad-marks-requires
+bad-marks-requires c κs = search needs
+
+returns : tie.Need-returns
+unfolding first
+returns c = rw (← (c .before .bad-marks .ensures), c .if1 .taken)
+
+bad-stretches-requires : tie.Need-bad-stretches-requires
+bad-stretches-requires c κs = (c .before .before .before .pre, sym (c .before .bad-marks .ensures) ∙ c .if1 .left)
+
+returns-2 : tie.Need-returns-2
+unfolding first
+returns-2 c = rw (← (c .before .before .before .bad-marks .ensures), c .before .before .if1 .left, ← (c .before .bad-stretches .ensures), c .if2 .taken)
+
+returns-3 : tie.Need-returns-3
+unfolding first
+returns-3 c = rw (← (c .before .before .before .bad-marks .ensures), c .before .before .if1 .left, ← (c .before .bad-stretches .ensures), c .if2 .left)
+
+pub marks-refusal-spec : {M : Type 1} → statement M
+marks-refusal-spec =
+    tie.close (tie.spec bad-marks-requires returns bad-stretches-requires returns-2 returns-3)

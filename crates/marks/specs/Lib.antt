@@ -1,0 +1,2 @@
+pub mod Pays
+pub mod Marks

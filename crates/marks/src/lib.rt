@@ -1,0 +1,109 @@
+// The marks of a setting: what each pays when passed, and checks 9 and 10 of lists that a user supplies.
+ghost use mathlib.Core.Path.{_≡_};
+ghost use mathlib.Core.Bool.{false};
+ghost use Prim.Native.Nat.{_-_, _≤_, _<_};
+ghost use lib.ListN.{length, getD};
+ghost use Rattle.sheet.specs.Refusal.{first};
+ghost use Rattle.sheet.specs.Job.{some, total, taskLimit, costLimit, Sound};
+ghost use Rattle.marks.specs.Pays.{paysOf};
+ghost use Rattle.marks.specs.Marks.{between, stretchAllowed, badMarks, badStretches, marksConditions};
+use sheet::Job;
+use sheet::Platform;
+
+// Which of V, C_M and C_D a passed mark pays.
+pub struct Pays {
+    pub v: bool,
+    pub cm: bool,
+    pub cd: bool,
+}
+
+const HIGHEST_MARK: u8 = 3;
+
+const TABLE: [Pays; 4] = [
+    Pays {
+        v: false,
+        cm: false,
+        cd: false,
+    },
+    Pays {
+        v: true,
+        cm: false,
+        cd: false,
+    },
+    Pays {
+        v: true,
+        cm: true,
+        cd: false,
+    },
+    Pays {
+        v: true,
+        cm: true,
+        cd: true,
+    },
+];
+
+// What the mark pays; a byte that is no mark pays nothing.
+pub fn payments(mark: u8) -> Pays
+    ensures { λ r. ⌜ r ≡ paysOf mark ⌝ }
+{
+    if HIGHEST_MARK < mark {
+        return TABLE[0];
+    }
+    TABLE[mark as usize]
+}
+
+// Check 9: not n marks, a mark above 3, or the last not 3.
+fn bad_marks(n: usize, marks: &[u8]) -> bool
+    requires { ⌜ 0 < n ⌝ }
+    ensures { λ r. ⌜ r ≡ badMarks n (now (marks .entry)) ⌝ }
+{
+    if marks.len() != n {
+        return true;
+    }
+    let mut j: usize = 0;
+    while j < n {
+        if HIGHEST_MARK < marks[j] {
+            return true;
+        }
+        j += 1;
+    }
+    marks[n - 1] != HIGHEST_MARK
+}
+
+// Check 10: a stretch from one marked position, or the start, to the next is not allowed.
+fn bad_stretches(job: Job, marks: &[u8]) -> bool
+    requires { ⌜ Sound job ⌝ }
+    requires { ⌜ badMarks (job .tasks) (now marks) ≡ false ⌝ }
+    ensures { λ r. ⌜ r ≡ badStretches job (now (marks .entry)) ⌝ }
+{
+    let n = job.tasks;
+    let weights = job.weights;
+    let platform = job.platform;
+    let mut weight: u64 = 0;
+    let mut j: usize = 0;
+    while j < n {
+        weight += weights[j] as u64;
+        if marks[j] != 0 {
+            if !sheet::values::is_allowed(platform, weight) {
+                return true;
+            }
+            weight = 0;
+        }
+        j += 1;
+    }
+    false
+}
+
+// The first of checks 9 and 10 that holds, or 0. The job has passed checks 3, 7 and 8.
+pub fn marks_refusal(job: Job, marks: &[u8]) -> u64
+    requires { ⌜ Sound job ⌝ }
+    ensures { λ r. ⌜ r ≡ first (marksConditions job (now (marks .entry))) ⌝ }
+{
+    if bad_marks(job.tasks, marks) {
+        return 9;
+    }
+    if bad_stretches(job, marks) {
+        return 10;
+    }
+    0
+}

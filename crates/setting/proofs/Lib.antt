@@ -1,0 +1,9 @@
+pub mod Last
+pub mod Spent
+pub mod Search
+pub mod Lower
+pub mod Walk
+pub mod Attained
+pub mod Order
+pub mod Ties
+pub mod Theorems

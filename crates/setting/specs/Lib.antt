@@ -1,0 +1,5 @@
+pub mod Chain
+pub mod Time
+pub mod Plan
+pub mod Search
+pub mod Equations

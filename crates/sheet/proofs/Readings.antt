@@ -1,0 +1,54 @@
+-- Reading a sheet: one law for each answer, and what an accepted sheet gives. Assumes nothing.
+use Prim.Native.Nat.{ℕ, zero, suc, _<_}
+use mathlib.Core.Path.{_≡_, refl, sym, _∙_}
+use mathlib.Core.List.{List, [], _∷_}
+use native.Mathlib.Omega.{arith}
+use Rattle.sheet.specs.Refusal.{first}
+use Rattle.sheet.specs.Job.{badCount, jobConditions, Sound}
+use Rattle.sheet.specs.Sheet.{tasks, layoutConditions, jobOf, sheetOf, sheetRefusal, answer, numberOf, readingOf}
+use Rattle.sheet.specs.declared.Reading.{Reading}
+use Rattle.sheet.specs.declared.Sheet.{Sheet}
+use Rattle.sheet.specs.declared.Reading.the-variants.{Accepted, Refused}
+use Rattle.sheet.proofs.Refusals.{first-stands, first-goes-on, first-none}
+use Rattle.sheet.proofs.Sections.{layout-numbered, layout-count}
+use Rattle.sheet.proofs.Ranges.{job-sound}
+
+module _ (s : List ℕ) where
+  pub sheet-refused : 0 < first (layoutConditions s) → first (layoutConditions s) ≡ sheetRefusal s
+  unfolding sheetRefusal
+  sheet-refused p = sym (first-stands (layoutConditions s) _ p)
+
+  pub sheet-goes-on : first (layoutConditions s) ≡ 0 → first (jobConditions (jobOf s)) ≡ sheetRefusal s
+  unfolding sheetRefusal
+  sheet-goes-on e = sym (first-goes-on (layoutConditions s) _ (layout-numbered s) e)
+
+  pub sheet-layout : sheetRefusal s ≡ 0 → first (layoutConditions s) ≡ 0
+  unfolding sheetRefusal
+  sheet-layout e = first-none (layoutConditions s) _ e
+
+  -- the values of an accepted sheet are in range
+  pub sheet-sound : sheetRefusal s ≡ 0 → Sound (jobOf s)
+  unfolding jobOf
+  sheet-sound e = job-sound (jobOf s) (layout-count s (sheet-layout e)) (sheet-goes-on (sheet-layout e) ∙ e)
+
+  refused : (r : ℕ) (v : Sheet) → 0 < r → Refused r ≡ answer r v
+  refused zero v p = absurd (omega arith)
+  refused (suc r) v p = refl
+
+  pub reading-refused : 0 < sheetRefusal s → Refused (sheetRefusal s) ≡ readingOf s
+  unfolding readingOf
+  reading-refused p = refused (sheetRefusal s) (sheetOf s) p
+
+  pub reading-accepted : sheetRefusal s ≡ 0 → Accepted (sheetOf s) ≡ readingOf s
+  unfolding readingOf
+  reading-accepted e = rw e
+
+  number : (r : ℕ) (v : Sheet) → numberOf (answer r v) ≡ r
+  unfolding numberOf
+  number zero v = refl
+  number (suc r) v = refl
+
+  -- the number of the answer is that of the first check that holds, and 0 where none does
+  pub reading-number : numberOf (readingOf s) ≡ sheetRefusal s
+  unfolding readingOf
+  reading-number = number (sheetRefusal s) (sheetOf s)

@@ -1,0 +1,89 @@
+-- Laws of `some`, a test over the numbers below n, and of `tabulate`, the list of a function. Assumes nothing.
+use Prim.Native.Nat.{ℕ, zero, suc, _+_, _*_, _≤_, _<_}
+use mathlib.Core.Path.{_≡_, refl, sym, _∙_}
+use mathlib.Core.Bool.{Bool, true, false, _||_, or-true}
+use mathlib.Core.Logic.{_⊎_, inl, inr}
+use mathlib.Core.List.{List, [], _∷_, _++_}
+use native.Mathlib.Nat.{add-suc, add-zero, eq-or-lt-of-le, le-of-suc-le-suc}
+use native.Mathlib.Decide.{ℕ-discrete, decLt}
+use native.Mathlib.Numerals.{add-one}
+use native.Mathlib.Omega.{arith}
+use lib.ListN.{length, getD, set, length-append, length-set, List·getD-append}
+use lib.Seq.{ext-getD, getD-set-same, getD-set-other, getD-at}
+use borrow.Author.Tests.{lt-ltb, le-ltb}
+use lib.Dec.{ltb}
+use Rattle.units.specs.Choice.{ite}
+use Rattle.sheet.specs.Bytes.{fieldAt, fieldLength}
+use Rattle.sheet.specs.Job.{taskLimit, some}
+use Rattle.sheet.specs.Sheet.{tabulate, weightsOf}
+use Rattle.sheet.proofs.Refusals.{or-fails}
+
+-- a number below n that passes is enough
+pub some-holds : (n : ℕ) (p : ℕ → Bool) (j : ℕ) → j < n → p j ≡ true → some n p ≡ true
+unfolding some
+some-holds zero p j h e = absurd (omega arith)
+some-holds (suc n) p j h e = go (eq-or-lt-of-le (le-of-suc-le-suc h)) (some-holds n p j)
+  where
+    go : (j ≡ n) ⊎ (j < n) → (j < n → p j ≡ true → some n p ≡ true) → (some n p || p n) ≡ true
+    go (inl q) ih = rw (← q, e) (or-true (some j p))
+    go (inr q) ih = rw (ih q e)
+
+-- one number more that fails
+pub some-more : (n : ℕ) (p : ℕ → Bool) → some n p ≡ false → p n ≡ false → some (n + 1) p ≡ false
+unfolding some
+some-more n p e q = rw (add-one, e) q
+
+-- where none passes, each fails
+pub some-fails : (n : ℕ) (p : ℕ → Bool) → some n p ≡ false → (j : ℕ) → j < n → p j ≡ false
+unfolding some
+some-fails zero p e j h = absurd (omega arith)
+some-fails (suc n) p e j h = go (eq-or-lt-of-le (le-of-suc-le-suc h)) (some-fails n p (or-fails (some n p) (p n) e .0) j)
+  where
+    go : (j ≡ n) ⊎ (j < n) → (j < n → p j ≡ false) → p j ≡ false
+    go (inl q) ih = rw q (or-fails (some n p) (p n) e .1)
+    go (inr q) ih = ih q
+
+pub length-tabulate : (n : ℕ) (f : ℕ → ℕ) → length (tabulate n f) ≡ n
+unfolding tabulate
+length-tabulate zero f = refl
+length-tabulate (suc n) f = omega (arith, length-append (tabulate n f) (f n ∷ []), length-tabulate n f)
+
+pub getD-tabulate : (n : ℕ) (f : ℕ → ℕ) (j : ℕ) → j < n → getD (tabulate n f) j 0 ≡ f j
+unfolding tabulate
+getD-tabulate zero f j h = absurd (omega arith)
+getD-tabulate (suc n) f j h = go (eq-or-lt-of-le (le-of-suc-le-suc h)) (getD-tabulate n f j)
+  where
+    go : (j ≡ n) ⊎ (j < n) → (j < n → getD (tabulate n f) j 0 ≡ f j) → getD (tabulate n f ++ (f n ∷ [])) j 0 ≡ f j
+    go (inl q) ih = rw q (getD-at (tabulate n f) (f n) [] 0 n (length-tabulate n f))
+    go (inr q) ih = List·getD-append (tabulate n f) (f n ∷ []) 0 j (rw (length-tabulate n f) q) ∙ ih q
+
+-- storing g at j turns the list of f into that of g, where the two agree elsewhere
+pub set-tabulate : (n : ℕ) (f g : ℕ → ℕ) (j : ℕ) → j < n → ((i : ℕ) → (i ≡ j → ⊥) → f i ≡ g i) → set (tabulate n f) j (g j) ≡ tabulate n g
+set-tabulate n f g j h same =
+    ext-getD 0 _ _ (length-set (tabulate n f) j (g j) ∙ length-tabulate n f ∙ sym (length-tabulate n g)) at
+  where
+    at : (i : ℕ) → i < length (set (tabulate n f) j (g j)) → getD (set (tabulate n f) j (g j)) i 0 ≡ getD (tabulate n g) i 0
+    at i k = go (ℕ-discrete i j) (rw (length-set, length-tabulate) at k)
+      where
+        go : Dec (i ≡ j) → i < n → getD (set (tabulate n f) j (g j)) i 0 ≡ getD (tabulate n g) i 0
+        go (yes q) l = rw (q, getD-set-same (tabulate n f) j (g j) 0 (rw (length-tabulate n f) h), getD-tabulate n g j h)
+        go (no q) l = getD-set-other (tabulate n f) j i (g j) 0 q ∙ getD-tabulate n f i l ∙ same i q ∙ sym (getD-tabulate n g i l)
+
+-- one weight more of a weights section
+pub weights-more : (p : List ℕ) (j : ℕ) → j < taskLimit → set (weightsOf p j) j (fieldAt p (1 + fieldLength * j)) ≡ weightsOf p (j + 1)
+unfolding weightsOf
+weights-more p j h =
+    rw (← here) (set-tabulate taskLimit (entry j) (entry (j + 1)) j h same)
+  where
+    entry : ℕ → ℕ → ℕ
+    entry n i = ite (ltb i n) (fieldAt p (1 + fieldLength * i)) 0
+
+    here : entry (j + 1) j ≡ fieldAt p (1 + fieldLength * j)
+    here = rw (lt-ltb j (j + 1) (omega arith))
+
+    same : (i : ℕ) → (i ≡ j → ⊥) → entry j i ≡ entry (j + 1) i
+    same i q = go (decLt i j)
+      where
+        go : Dec (i < j) → entry j i ≡ entry (j + 1) i
+        go (yes l) = rw (lt-ltb i j l, lt-ltb i (j + 1) (omega arith))
+        go (no l) = rw (le-ltb i j (omega arith), le-ltb i (j + 1) (omega arith))

@@ -1,0 +1,16 @@
+use mathlib.Core.Path.{refl}
+use borrow.Author.Tests.{lt-ltb, le-ltb}
+use Rattle.sheet.specs.Sheet.{badLength}
+use Rattle.sheet.proofs.layout.bad_length.Statement.{statement}
+use Rattle.sheet.proofs.layout.bad_length.Tie as tie
+
+returns : tie.Need-returns
+unfolding badLength
+returns c = simp (lt-ltb _ _ (c .if1 .taken))
+
+returns-2 : tie.Need-returns-2
+unfolding badLength
+returns-2 c = simp (le-ltb _ _ (c .if1 .left))
+
+pub bad-length-spec : {M : Type 1} → statement M
+bad-length-spec = tie.close (tie.spec returns returns-2)

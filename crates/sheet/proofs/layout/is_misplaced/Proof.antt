@@ -1,0 +1,28 @@
+use mathlib.Core.Path.{refl}
+use borrow.Author.Tests.{eq-eqb, ne-eqb, lt-ltb, le-ltb}
+use Rattle.sheet.specs.Sheet.{misplaced}
+use borrow.Author.Needs.{needs}
+use Rattle.sheet.proofs.layout.is_misplaced.Statement.{statement}
+use Rattle.sheet.proofs.layout.is_misplaced.Tie as tie
+
+returns : tie.Need-returns
+unfolding misplaced
+returns c = simp (eq-eqb _ _ (c .if1 .taken))
+
+returns-2 : tie.Need-returns-2
+unfolding misplaced
+returns-2 c = simp (ne-eqb _ _ (c .before .if1 .left), lt-ltb _ _ (c .if2 .taken))
+
+returns-3 : tie.Need-returns-3
+unfolding misplaced
+returns-3 c = simp (ne-eqb _ _ (c .before .before .if1 .left), le-ltb _ _ (c .before .if2 .left), lt-ltb _ _ (c .if3 .taken))
+
+add-result : tie.Need-add-result
+add-result c = search needs
+
+returns-4 : tie.Need-returns-4
+unfolding misplaced
+returns-4 c = simp (ne-eqb _ _ (c .before .before .if1 .left), le-ltb _ _ (c .before .if2 .left), le-ltb _ _ (c .if3 .left))
+
+pub is-misplaced-spec : {M : Type 1} → statement M
+is-misplaced-spec = tie.close (tie.spec returns returns-2 returns-3 add-result returns-4)

@@ -1,0 +1,23 @@
+use Rattle.sheet.specs.Sheet.{size}
+use borrow.Author.Needs.{needs}
+use Rattle.sheet.proofs.layout.size_of.Statement.{statement}
+use Rattle.sheet.proofs.layout.size_of.Tie as tie
+
+mul-field : tie.Need-mul-field
+mul-field c = search needs
+
+add-field : tie.Need-add-field
+add-field c = search needs
+
+field-requires : tie.Need-field-requires
+field-requires c κs = search needs
+
+cast-result : tie.Need-cast-result
+cast-result c = search needs
+
+returns : tie.Need-returns
+unfolding size
+returns c = search needs
+
+pub size-of-spec : {M : Type 1} → statement M
+size-of-spec = tie.close (tie.spec mul-field add-field field-requires cast-result returns)

@@ -1,0 +1,14 @@
+use Rattle.sheet.specs.Sheet.{tasks}
+use borrow.Author.Needs.{needs}
+use Rattle.sheet.proofs.layout.task_count.Statement.{statement}
+use Rattle.sheet.proofs.layout.task_count.Tie as tie
+
+byte-requires : tie.Need-byte-requires
+byte-requires c κs = search needs
+
+returns : tie.Need-returns
+unfolding tasks
+returns c = search needs
+
+pub task-count-spec : {M : Type 1} → statement M
+task-count-spec = tie.close (tie.spec byte-requires returns)

@@ -1,0 +1,21 @@
+use mathlib.Core.Path.{_∙_}
+use Rattle.units.specs.Unit.{up}
+use Rattle.sheet.proofs.Ranges.{product-range}
+use native.Mathlib.Omega.{arith}
+use native.Mathlib.Nat.{mul-le-mul}
+use borrow.Author.Needs.{needs}
+use Rattle.sheet.proofs.values.exponent_of.Statement.{statement}
+use Rattle.sheet.proofs.values.exponent_of.Tie as tie
+
+mul-rounded-up : tie.Need-mul-rounded-up
+mul-rounded-up c = record { fits = omega (arith, product-range (c .fits .rate .fits) (c .pre)) }
+
+rounded-up-requires : tie.Need-rounded-up-requires
+rounded-up-requires c κs = search needs
+
+returns : tie.Need-returns
+unfolding up
+returns c = (c .rounded-up .ensures, omega (arith, c .rounded-up .ensures, product-range (c .before .fits .rate .fits) (c .before .pre)))
+
+pub exponent-of-spec : {M : Type 1} → statement M
+exponent-of-spec = tie.close (tie.spec mul-rounded-up rounded-up-requires returns)

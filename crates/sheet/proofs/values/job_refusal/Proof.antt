@@ -1,0 +1,27 @@
+use mathlib.Core.Path.{sym, _∙_}
+use Rattle.sheet.specs.Refusal.{first}
+use borrow.Author.Needs.{needs}
+use Rattle.sheet.proofs.values.job_refusal.Statement.{statement}
+use Rattle.sheet.proofs.values.job_refusal.Tie as tie
+
+bad-value-requires : tie.Need-bad-value-requires
+bad-value-requires c κs = search needs
+
+returns : tie.Need-returns
+unfolding first
+returns c = rw (← (c .before .bad-value .ensures), c .if1 .taken)
+
+bad-task-requires : tie.Need-bad-task-requires
+bad-task-requires c κs = (c .before .before .pre, sym (c .before .bad-value .ensures) ∙ c .if1 .left)
+
+returns-2 : tie.Need-returns-2
+unfolding first
+returns-2 c = rw (← (c .before .before .before .bad-value .ensures), c .before .before .if1 .left, ← (c .before .bad-task .ensures), c .if2 .taken)
+
+returns-3 : tie.Need-returns-3
+unfolding first
+returns-3 c = rw (← (c .before .before .before .bad-value .ensures), c .before .before .if1 .left, ← (c .before .bad-task .ensures), c .if2 .left)
+
+pub job-refusal-spec : {M : Type 1} → statement M
+job-refusal-spec =
+    tie.close (tie.spec bad-value-requires returns bad-task-requires returns-2 returns-3)

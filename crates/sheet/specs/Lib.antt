@@ -1,0 +1,5 @@
+pub mod Refusal
+pub mod Bytes
+pub mod Job
+pub mod Sheet
+pub mod Lookup

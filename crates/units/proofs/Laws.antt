@@ -1,0 +1,19 @@
+-- Laws of up(p): it is the least whole number of ticks whose units reach p, so it grows with p and is known from both sides.
+-- Assumes nothing.
+use Prim.Native.Nat.{ℕ, _+_, _*_, _≤_, _<_}
+use native.Mathlib.Omega.{arith}
+use Rattle.units.specs.Unit.{unit, up}
+
+pub up-mono : {p q : ℕ} → p ≤ q → up p ≤ up q
+unfolding up
+up-mono h = omega arith
+
+-- up(p) units reach p
+pub up-ge : (p : ℕ) → p ≤ up p * unit
+unfolding up
+up-ge p = omega arith
+
+-- and one tick less would not
+pub up-lt : (p : ℕ) → up p * unit < p + unit
+unfolding up
+up-lt p = omega arith

@@ -1,0 +1,2 @@
+-- The laws of rounding that the crates above cite.
+pub mod Laws
