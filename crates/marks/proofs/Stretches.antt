@@ -9,15 +9,16 @@ use native.Mathlib.Nat.{sub-self, eq-or-lt-of-le}
 use native.Mathlib.Numerals.{add-one}
 use native.Mathlib.Omega.{arith}
 use borrow.Author.Tests.{le-leb, lt-leb, ltb-false, eqb-true, eqb-false, not-false}
-use lib.Dec.{leb, ltb, eqb}
+use lib.Dec.{leb, ltb, eqb, lit<}
 use lib.ListN.{length, getD}
 use Rattle.setting.specs.Time.{Marks, verification, last}
 use Rattle.setting.specs.Equations.{last-here, last-past, last-lt}
 use Rattle.sheet.specs.Job.{some, total, weightAt, isAllowed, costLimit, Sound}
 use Rattle.sheet.specs.declared.Job.{Job}
-use Rattle.sheet.proofs.Refusals.{or-fails}
+use Rattle.sheet.specs.Refusal.{first}
+use Rattle.sheet.proofs.Refusals.{Numbered, first-clear, or-fails}
 use Rattle.sheet.proofs.Tables.{some-fails, some-holds, some-more}
-use Rattle.marks.specs.Marks.{highestMark, marksOf, between, badMarks, badStretch, badStretches, stretchAllowed}
+use Rattle.marks.specs.Marks.{highestMark, marksOf, between, badMarks, badStretch, badStretches, marksConditions, stretchAllowed}
 
 pub mark-at : (l : List ℕ) (j : ℕ) → marksOf l (suc j) ≡ getD l j 0
 mark-at l j = let e : suc j - 1 ≡ j = omega arith in rw e
@@ -127,3 +128,11 @@ module _ (job : Job) (l : List ℕ) where
   pub walked-all : (j weight : ℕ) → Walked job l j weight → j ≡ job .tasks → badStretches job l ≡ false
   unfolding badStretches
   walked-all j weight walked e = rw e at (walked .clear)
+
+-- what checks 9 and 10 leave
+pub marks-right : (job : Job) (l : List ℕ) → first (marksConditions job l) ≡ 0 → (badMarks (job .tasks) l ≡ false) × (badStretches job l ≡ false)
+marks-right job l e =
+    (first-clear _ _ (lit< tt) e .0, first-clear _ _ (lit< tt) (first-clear _ _ (lit< tt) e .1) .0)
+
+pub marks-numbered : (job : Job) (l : List ℕ) → Numbered (marksConditions job l)
+marks-numbered job l = (lit< tt, (lit< tt, tt))

@@ -1,2 +1,3 @@
 pub mod Pays
 pub mod Marks
+pub mod Recovery

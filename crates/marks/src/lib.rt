@@ -6,6 +6,7 @@ ghost use lib.ListN.{length, getD};
 ghost use Rattle.sheet.specs.Refusal.{first};
 ghost use Rattle.sheet.specs.Job.{some, total, taskLimit, costLimit, Sound};
 ghost use Rattle.marks.specs.Pays.{paysOf};
+ghost use Rattle.marks.specs.Recovery.{fromDisk, fromMemory};
 ghost use Rattle.marks.specs.Marks.{between, stretchAllowed, badMarks, badStretches, marksConditions};
 use sheet::Job;
 use sheet::Platform;
@@ -106,4 +107,24 @@ pub fn marks_refusal(job: Job, marks: &[u8]) -> u64
         return 10;
     }
     0
+}
+
+// R_D' where d is the last disk copy.
+pub fn from_disk(p: Platform, d: usize) -> u64
+    ensures { λ r. ⌜ r ≡ fromDisk p d ⌝ }
+{
+    if d == 0 {
+        return 0;
+    }
+    p.rd as u64
+}
+
+// R_M' where m is the last memory copy.
+pub fn from_memory(p: Platform, m: usize) -> u64
+    ensures { λ r. ⌜ r ≡ fromMemory p m ⌝ }
+{
+    if m == 0 {
+        return 0;
+    }
+    p.rm as u64
 }

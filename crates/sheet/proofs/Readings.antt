@@ -5,11 +5,12 @@ use mathlib.Core.List.{List, [], _∷_}
 use native.Mathlib.Omega.{arith}
 use Rattle.sheet.specs.Refusal.{first}
 use Rattle.sheet.specs.Job.{badCount, jobConditions, Sound}
-use Rattle.sheet.specs.Sheet.{tasks, layoutConditions, jobOf, sheetOf, sheetRefusal, answer, numberOf, readingOf}
+use Rattle.sheet.specs.Sheet.{tasks, layoutConditions, jobOf, sheetOf, sheetConditions, sheetRefusal, answer, numberOf, readingOf}
 use Rattle.sheet.specs.declared.Reading.{Reading}
 use Rattle.sheet.specs.declared.Sheet.{Sheet}
 use Rattle.sheet.specs.declared.Reading.the-variants.{Accepted, Refused}
-use Rattle.sheet.proofs.Refusals.{first-stands, first-goes-on, first-none}
+use lib.Dec.{lit<}
+use Rattle.sheet.proofs.Refusals.{Numbered, first-stands, first-goes-on, first-none}
 use Rattle.sheet.proofs.Sections.{layout-numbered, layout-count}
 use Rattle.sheet.proofs.Ranges.{job-sound}
 
@@ -52,3 +53,6 @@ module _ (s : List ℕ) where
   pub reading-number : numberOf (readingOf s) ≡ sheetRefusal s
   unfolding readingOf
   reading-number = number (sheetRefusal s) (sheetOf s)
+
+pub sheet-numbered : (s : List ℕ) → Numbered (sheetConditions s)
+sheet-numbered s = (lit< tt, (lit< tt, (lit< tt, (lit< tt, (lit< tt, (lit< tt, (lit< tt, (lit< tt, tt))))))))

@@ -1,0 +1,19 @@
+use borrow.Author.Tests.{eq-eqb, ne-eqb}
+use Rattle.marks.specs.Recovery.{fromMemory}
+use borrow.Author.Needs.{needs}
+use Rattle.marks.proofs.from_memory.Statement.{statement}
+use Rattle.marks.proofs.from_memory.Tie as tie
+
+returns : tie.Need-returns
+unfolding fromMemory
+returns c = rw (eq-eqb _ _ (c .if1 .taken))
+
+cast-result : tie.Need-cast-result
+cast-result c = search needs
+
+returns-2 : tie.Need-returns-2
+unfolding fromMemory
+returns-2 c = rw (ne-eqb _ _ (c .before .if1 .left))
+
+pub from-memory-spec : {M : Type 1} → statement M
+from-memory-spec = tie.close (tie.spec returns cast-result returns-2)

@@ -1,0 +1,4 @@
+pub mod Chain
+pub mod Price
+pub mod Carry
+pub mod Bounds
