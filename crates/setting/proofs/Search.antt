@@ -14,11 +14,11 @@ use Rattle.setting.specs.Search.{least, earliest, Cost, reachTo, reach, 
 
 module _ (N : ℕ) (c : ℕ → ℕ) where
   -- one more value is either less than all before, or changes nothing
-  least-new : (k : ℕ) → c k < least N c k → (least N c (suc k) ≡ c k) × (earliest N c (suc k) ≡ k)
+  pub least-new : (k : ℕ) → c k < least N c k → (least N c (suc k) ≡ c k) × (earliest N c (suc k) ≡ k)
   unfolding least earliest
   least-new k h = (rw (lt-ltb _ _ h), rw (lt-ltb _ _ h))
 
-  least-old : (k : ℕ) → least N c k ≤ c k → (least N c (suc k) ≡ least N c k) × (earliest N c (suc k) ≡ earliest N c k)
+  pub least-old : (k : ℕ) → least N c k ≤ c k → (least N c (suc k) ≡ least N c k) × (earliest N c (suc k) ≡ earliest N c k)
   unfolding least earliest
   least-old k h = (rw (le-ltb _ _ h), rw (le-ltb _ _ h))
 
@@ -106,11 +106,23 @@ module _ (N b : ℕ) (cost : Cost) where
       go (no h) = omega (arith, reach-is v h, least-cap N (way N b cost v) v)
 
   -- a way by a position that is reached
-  way-is : (v u : ℕ) → b ≤ u → reach N b cost u < N → way N b cost v u ≡ cost u (reach N b cost u) v
+  pub way-is : (v u : ℕ) → b ≤ u → reach N b cost u < N → way N b cost v u ≡ cost u (reach N b cost u) v
   unfolding way
   way-is v u h l = rw (le-leb b u h, lt-ltb _ _ l)
 
   -- any other takes N
+  pub way-unreached : (v u : ℕ) → N ≤ reach N b cost u → way N b cost v u ≡ N
+  unfolding way
+  way-unreached v u l = go (decLe b u)
+    where
+      go : Dec (b ≤ u) → way N b cost v u ≡ N
+      go (yes h) = rw (le-leb b u h, le-ltb (reach N b cost u) N l)
+      go (no h) = rw (lt-leb b u (omega arith))
+
+  pub way-before : (v u : ℕ) → u < b → way N b cost v u ≡ N
+  unfolding way
+  way-before v u h = rw (lt-leb b u h)
+
   way-none : (v u : ℕ) → way N b cost v u < N → (b ≤ u) × (reach N b cost u < N)
   unfolding way
   way-none v u = go (decLe b u) (decLt (reach N b cost u) N)

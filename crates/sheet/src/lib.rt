@@ -1,5 +1,5 @@
 // The job sheet of document 01: lookup by kind, reading with checks 1 to 8, and the values that an accepted sheet gives.
-mod bytes;
+pub mod bytes;
 pub mod layout;
 pub mod read;
 pub mod values;
