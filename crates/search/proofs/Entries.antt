@@ -1,21 +1,25 @@
 -- The table of factors is filled pair by pair: the entries of a later pair lie past those of the pairs before it. Assumes nothing.
 use Prim.Native.Nat.{ℕ, zero, suc, _+_, _-_, _*_, _/_, _%_, _^_, _≤_, _<_}
 use mathlib.Core.Path.{_≡_, refl, sym, _∙_}
+use mathlib.Core.Logic.{_≢_}
 use mathlib.Core.List.{List}
 use native.Mathlib.Decide.{ℕ-discrete, decLt}
 use native.Mathlib.Omega.{arith}
+use borrow.Author.Tests.{eq-eqb, ne-eqb, le-ltb}
+use lib.Dec.{ltb}
 use lib.ListN.{length, getD, set, length-set}
-use lib.Seq.{getD-set-same, getD-set-other}
+use Rattle.units.specs.Choice.{ite}
+use lib.Seq.{getD-set-same, getD-set-other, set-getD}
 use Rattle.sheet.specs.Job.{costLimit, total, weightAt, Sound}
 use Rattle.sheet.specs.declared.Job.{Job}
 use Rattle.sheet.specs.declared.Platform.{Platform}
 use Rattle.sheet.proofs.Ranges.{total-more}
 use Rattle.marks.specs.Marks.{between}
 use Rattle.marks.proofs.Stretches.{total-mono}
-use Rattle.pricing.specs.Carry.{factorsOf}
+use Rattle.pricing.specs.Carry.{none, factorsOf, stretchOf}
 use Rattle.pricing.specs.declared.Factors.{Factors}
 use Rattle.search.specs.Rows.{positions}
-use Rattle.search.specs.Table.{tableLength, pairAt, entryOf, Tabled, Totals, Growing, difference}
+use Rattle.search.specs.Table.{tableLength, pairAt, entryOf, Tabled, Totals, Growing, difference, arrivalAt, Usable}
 
 -- one total more
 pub totals-more : (w : List ℕ) (j : ℕ) (sums : List ℕ) → Totals w j sums → j + 1 < positions → Totals w (j + 1) (set sums (j + 1) (getD sums j 0 + weightAt w j))
@@ -129,3 +133,22 @@ tabled-weights platform n W W' k t same h =
 
 pub tabled-none : (platform : Platform) (n : ℕ) (W : ℕ → ℕ → ℕ) (t : List ℕ) → length t ≡ tableLength → Tabled platform n W 0 t
 tabled-none platform n W t e = record { long = e; pairs = λ u v a b l. absurd (omega arith) }
+
+-- an arrival by the table, where the stretch is not allowed and where it is
+module _ (t : List ℕ) (disk memory u q v : ℕ) where
+  pub arrival-none : entryOf t u v .error ≡ 0 → arrivalAt t disk memory u q v ≡ none
+  unfolding arrivalAt
+  arrival-none e = rw (eq-eqb (entryOf t u v .error) 0 e)
+
+  pub arrival-some : entryOf t u v .error ≢ 0 → arrivalAt t disk memory u q v ≡ q + stretchOf (entryOf t u v) disk q memory
+  unfolding arrivalAt
+  arrival-some e = rw (ne-eqb (entryOf t u v .error) 0 e)
+
+-- an offer that is no less changes neither row
+pub offers-nothing : (time before : List ℕ) (v u c : ℕ) → getD time v 0 ≤ c
+    → (time ≡ set time v (ite (ltb c (getD time v 0)) c (getD time v 0))) × (before ≡ set before v (ite (ltb c (getD time v 0)) u (getD before v 0)))
+offers-nothing time before v u c h =
+    rw (le-ltb c (getD time v 0) h) (sym (set-getD time v 0), sym (set-getD before v 0))
+
+pub usable-less : (n v : ℕ) (t : List ℕ) → v ≤ n → Usable n t → Usable v t
+usable-less n v t h s = record { long = s .long; factored = λ u w a b e. s .factored u w a (omega arith) e }

@@ -1,15 +1,18 @@
 -- The growth sums of each pair of ends, worked out once: three entries a pair, in a flat table.
 use Prim.Native.Nat.{ℕ, _+_, _-_, _*_, _≤_, _<_}
 use mathlib.Core.Path.{_≡_}
+use mathlib.Core.Logic.{_≢_}
 use mathlib.Core.List.{List}
 use lib.Dec.{eqb}
 use lib.ListN.{length, getD}
 use Rattle.units.specs.Choice.{ite}
+use Rattle.setting.specs.Search.{Cost}
 use Rattle.sheet.specs.Job.{costLimit, total}
 use Rattle.sheet.specs.declared.Job.{Job}
 use Rattle.sheet.specs.declared.Platform.{Platform}
 use Rattle.marks.specs.Marks.{between}
 use Rattle.pricing.specs.Carry.{none, factorsOf, stretchOf}
+use Rattle.pricing.specs.Bounds.{Factored}
 use Rattle.pricing.specs.declared.Factors.{Factors}
 use Rattle.search.specs.Rows.{positions}
 
@@ -37,9 +40,15 @@ pub record Tabled (p : Platform) (n : ℕ) (W : ℕ → ℕ → ℕ) (k : ℕ) (
 abbrev pub TableOf : Job → List ℕ → Type 0
 TableOf job t = Tabled (job .platform) (job .tasks) (between (job .weights)) (positions * positions) t
 
--- the arrival at v from u by the table: none where the stretch is not allowed, which G gives 0
-unfoldable pub arrivalAt : List ℕ → (u q disk memory v : ℕ) → ℕ
-arrivalAt t u q disk memory v = ite (eqb (entryOf t u v .error) 0) none (q + stretchOf (entryOf t u v) disk q memory)
+-- the arrival at v from u, with time q there, by the table: none where the stretch is not allowed, to which G gives 0.
+-- disk is R_D' + M' and memory R_M'
+unfoldable pub arrivalAt : List ℕ → (disk memory : ℕ) → Cost
+arrivalAt t disk memory u q v = ite (eqb (entryOf t u v .error) 0) none (q + stretchOf (entryOf t u v) disk q memory)
+
+-- the entries of allowed stretches up to the position n are in range
+pub record Usable (n : ℕ) (t : List ℕ) : Type 0 where
+  pub long : length t ≡ tableLength
+  pub factored : (u v : ℕ) → u < v → v ≤ n → entryOf t u v .error ≢ 0 → Factored (entryOf t u v)
 
 -- the weight up to each position, up to position k
 pub record Totals (w : List ℕ) (k : ℕ) (sums : List ℕ) : Type 0 where

@@ -9,7 +9,7 @@ ghost use Rattle.sheet.specs.Job.{costLimit, Sound};
 ghost use Rattle.pricing.specs.Chain.{chainOf};
 ghost use Rattle.pricing.specs.Carry.{none};
 ghost use Rattle.search.specs.Rows.{positions, Offered, Filled};
-ghost use Rattle.search.specs.Table.{tableLength, arrivalAt, TableOf};
+ghost use Rattle.search.specs.Table.{tableLength, arrivalAt, TableOf, Usable};
 
 use crate::table::{POSITIONS, entry};
 use pricing::NONE;
@@ -39,5 +39,51 @@ fn offer_copies(time: &mut [u64], before: &mut [usize], u: usize, part: &[u64], 
     while v <= top {
         offer(time, before, v, u, t + part[v] + copy);
         v += 1;
+    }
+}
+
+// The arrival at the verification v from that at u, if the stretch is allowed.
+fn offer_verification(time: &mut [u64], before: &mut [usize], t: &[u64], u: usize, v: usize, q: u64, disk: u64, memory: u64)
+    requires { ⌜ (v < length (now time)) × (v < length (now before)) × (getD (now time) v 0 ≤ none) ⌝ }
+    requires { ⌜ (u < v) × (v < positions) × Usable v (now t) ⌝ }
+    requires { ⌜ (q < none) × (disk ≤ none + costLimit) × (memory ≤ costLimit) ⌝ }
+    ensures { λ _. ⌜ now (time .exit) ≡ set (now (time .entry)) v (ite (ltb (arrivalAt (now (t .entry)) disk memory u q v) (getD (now (time .entry)) v 0)) (arrivalAt (now (t .entry)) disk memory u q v) (getD (now (time .entry)) v 0)) ⌝ }
+    ensures { λ _. ⌜ now (before .exit) ≡ set (now (before .entry)) v (ite (ltb (arrivalAt (now (t .entry)) disk memory u q v) (getD (now (time .entry)) v 0)) u (getD (now (before .entry)) v 0)) ⌝ }
+{
+    let f = entry(t, u, v);
+    if f.error == 0 {
+        return;
+    }
+    offer(time, before, v, u, q + pricing::stretch_time(f, disk, q, memory));
+}
+
+// The arrivals at verifications from u. The last copies are the same for all of them: disk is R_D' + M', memory is R_M'.
+fn offer_verifications(time: &mut [u64], before: &mut [usize], t: &[u64], u: usize, disk: u64, memory: u64, top: usize)
+    requires { ⌜ (length (now time) ≡ positions) × (length (now before) ≡ positions) × Usable top (now t) ⌝ }
+    requires { ⌜ (u ≤ top) × (top < positions) × (disk ≤ none + costLimit) × (memory ≤ costLimit) ⌝ }
+    requires { ⌜ (getD (now time) u 0 < none) × ((w : ℕ) → w ≤ top → getD (now time) w 0 ≤ none) ⌝ }
+    ensures { λ _. ⌜ Offered (now (time .entry)) (now (before .entry)) u (top + 1) (arrivalAt (now (t .entry)) disk memory u (getD (now (time .entry)) u 0)) (now (time .exit)) (now (before .exit)) ⌝ }
+{
+    let q = time[u];
+    let mut v = u + 1;
+    while v <= top {
+        offer_verification(time, before, t, u, v, q, disk, memory);
+        v += 1;
+    }
+}
+
+// The least Q(v) from the memory copy m, for each v up to the top, in fresh rows that the caller lends.
+pub fn verification_row(time: &mut [u64], before: &mut [usize], t: &[u64], m: usize, disk: u64, memory: u64, top: usize)
+    requires { ⌜ (now time ≡ replicate positions none) × (now before ≡ replicate positions 0) × Usable top (now t) ⌝ }
+    requires { ⌜ (m ≤ top) × (top < positions) × (disk ≤ none + costLimit) × (memory ≤ costLimit) ⌝ }
+    ensures { λ _. ⌜ Filled none m (arrivalAt (now (t .entry)) disk memory) top (now (time .exit)) (now (before .exit)) ⌝ }
+{
+    time[m] = 0;
+    let mut u = m;
+    while u < top {
+        if time[u] < NONE {
+            offer_verifications(time, before, t, u, disk, memory, top);
+        }
+        u += 1;
     }
 }
