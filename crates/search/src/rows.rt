@@ -87,3 +87,66 @@ pub fn verification_row(time: &mut [u64], before: &mut [usize], t: &[u64], m: us
         u += 1;
     }
 }
+
+// The arrivals at memory copies from that at m, with the last disk copy d.
+fn offer_memory(time: &mut [u64], before: &mut [usize], t: &[u64], job: Job, d: usize, m: usize, top: usize)
+    requires { ⌜ (length (now time) ≡ positions) × (length (now before) ≡ positions) × TableOf job (now t) × Sound job ⌝ }
+    requires { ⌜ (m ≤ top) × (top ≤ job .tasks) × (getD (now time) m 0 < none) ⌝ }
+    ensures { λ _. ⌜ Offered (now (time .entry)) (now (before .entry)) m (top + 1) (toMemory (chainOf job) none d m (getD (now (time .entry)) m 0)) (now (time .exit)) (now (before .exit)) ⌝ }
+{
+    let p = job.platform;
+    let mt = time[m];
+    let mut q = [NONE; 65];
+    let mut from = [0usize; 65];
+    let disk = marks::from_disk(p, d) + mt;
+    verification_row(&mut q, &mut from, t, m, disk, marks::from_memory(p, m), top);
+    offer_copies(time, before, m, &q, p.cm as u64, top);
+}
+
+// The least M(v) from the disk copy d, for each v up to the top, in fresh rows that the caller lends.
+pub fn memory_row(time: &mut [u64], before: &mut [usize], t: &[u64], job: Job, d: usize, top: usize)
+    requires { ⌜ (now time ≡ replicate positions none) × (now before ≡ replicate positions 0) × TableOf job (now t) × Sound job ⌝ }
+    requires { ⌜ (d ≤ top) × (top ≤ job .tasks) ⌝ }
+    ensures { λ _. ⌜ Filled none d (toMemory (chainOf job) none d) top (now (time .exit)) (now (before .exit)) ⌝ }
+{
+    let job = job;
+    time[d] = 0;
+    let mut m = d;
+    while m < top {
+        if time[m] < NONE {
+            offer_memory(time, before, t, job, d, m, top);
+        }
+        m += 1;
+    }
+}
+
+// The arrivals at disk copies from that at d.
+fn offer_disk(time: &mut [u64], before: &mut [usize], t: &[u64], job: Job, d: usize)
+    requires { ⌜ (length (now time) ≡ positions) × (length (now before) ≡ positions) × TableOf job (now t) × Sound job ⌝ }
+    requires { ⌜ (d ≤ job .tasks) × (getD (now time) d 0 < none) ⌝ }
+    ensures { λ _. ⌜ Offered (now (time .entry)) (now (before .entry)) d (job .tasks + 1) (toDisk (chainOf job) none d (getD (now (time .entry)) d 0)) (now (time .exit)) (now (before .exit)) ⌝ }
+{
+    let p = job.platform;
+    let n = job.tasks;
+    let mut mt = [NONE; 65];
+    let mut from = [0usize; 65];
+    memory_row(&mut mt, &mut from, t, job, d, n);
+    offer_copies(time, before, d, &mt, p.cd as u64, n);
+}
+
+// The least D(v), for each v, in fresh rows that the caller lends.
+pub fn disk_row(time: &mut [u64], before: &mut [usize], t: &[u64], job: Job)
+    requires { ⌜ (now time ≡ replicate positions none) × (now before ≡ replicate positions 0) × TableOf job (now t) × Sound job ⌝ }
+    ensures { λ _. ⌜ Filled none 0 (toDisk (chainOf job) none) (job .tasks) (now (time .exit)) (now (before .exit)) ⌝ }
+{
+    let job = job;
+    let n = job.tasks;
+    time[0] = 0;
+    let mut d: usize = 0;
+    while d < n {
+        if time[d] < NONE {
+            offer_disk(time, before, t, job, d);
+        }
+        d += 1;
+    }
+}
