@@ -2,3 +2,4 @@
 pub mod Turns
 pub mod Entries
 pub mod Levels
+pub mod Backs

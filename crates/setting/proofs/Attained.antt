@@ -11,10 +11,10 @@ use Rattle.setting.specs.Chain.{Chain}
 use Rattle.setting.specs.Time.{Marks, verification, memory, disk, last, Q, M, D, Q', M'}
 use Rattle.setting.specs.Equations.{last-here, last-past, last-lt, Q'-start, Q'-else, M'-start, M'-else, M'-cong, Q-is, M-is, D-is, D-zero}
 use Rattle.setting.specs.Plan.{Setting}
-use Rattle.setting.specs.Search.{leastM, leastD, backD, backM, backQ, planTo, planMarks}
+use Rattle.setting.specs.Search.{leastM, leastD, backD, backM, backQ, planTo, planMarks, bestQ, State}
 use Rattle.setting.proofs.Last.{last-over}
-use Rattle.setting.proofs.Search.{bestQ, leastQ-start, leastM-start, leastD-start}
-use Rattle.setting.proofs.Walk.{backD-lt, backD-arrives, backM-arrives, backQ-lt, backQ-allowed, backQ-arrives, State, state-mark, state-memory, state-disk, planTo-here, planTo-mark, planTo-memory, planTo-disk, planTo-start, planTo-past}
+use Rattle.setting.proofs.Search.{leastQ-start, leastM-start, leastD-start}
+use Rattle.setting.proofs.Walk.{backD-lt, backD-arrives, backM-arrives, backQ-lt, backQ-allowed, backQ-arrives, state-mark, state-memory, state-disk, planTo-here, planTo-mark, planTo-memory, planTo-disk, planTo-start, planTo-past}
 
 -- what the marks f have at w: a mark of 0 to 3, an allowed stretch, and last positions that are the back positions
 pub record Follows (c : Chain) (N : ℕ) (f : Marks) (w : ℕ) : Type 0 where

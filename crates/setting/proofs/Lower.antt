@@ -12,9 +12,9 @@ use Rattle.setting.specs.Chain.{Chain}
 use Rattle.setting.specs.Time.{Marks, verification, memory, disk, last, S, Q, M, D, Q', M'}
 use Rattle.setting.specs.Equations.{Q'-else, M'-else, Q-is, M-is, D-is}
 use Rattle.setting.specs.Plan.{Setting}
-use Rattle.setting.specs.Search.{toVerification, leastQ, toMemory, leastM, toDisk, leastD}
+use Rattle.setting.specs.Search.{toVerification, leastQ, toMemory, leastM, toDisk, leastD, bestQ}
 use Rattle.setting.proofs.Last.{last-marked, last-last, InOrder, last-in-order}
-use Rattle.setting.proofs.Search.{reach-lower, bestQ, leastQ-start, leastM-start, leastD-start}
+use Rattle.setting.proofs.Search.{reach-lower, leastQ-start, leastM-start, leastD-start}
 
 up-mono : {p q : ℕ} → p ≤ q → up p ≤ up q
 unfolding up

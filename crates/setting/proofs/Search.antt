@@ -198,10 +198,6 @@ module _ (N b : ℕ) (cost : Cost) (v : ℕ) where
             reach-is N b cost v (omega (arith, i .starts, i .falls)),
           ))
 
--- the least Q(v) with the last copies d and m, where the time M' at m is least too
-abbrev pub bestQ : Chain → ℕ → (d m v : ℕ) → ℕ
-bestQ c N d m v = leastQ c N d m (leastM c N d m) v
-
 -- at each level the least time at its start is 0
 module _ (c : Chain) (N : ℕ) where
   pub leastQ-start : (d m M' : ℕ) → leastQ c N d m M' m ≡ 0

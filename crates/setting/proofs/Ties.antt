@@ -10,9 +10,9 @@ use Rattle.setting.specs.Chain.{Chain}
 use Rattle.setting.specs.Time.{Marks, verification, memory, disk, last, Q, M, D, Q', M'}
 use Rattle.setting.specs.Equations.{Q'-else, M'-else, M'-cong, Q-is, M-is, D-is}
 use Rattle.setting.specs.Plan.{Setting, listed, Before, Wins}
-use Rattle.setting.specs.Search.{toVerification, leastQ, toMemory, leastM, toDisk, leastD, backD, backM, backQ, planMarks}
+use Rattle.setting.specs.Search.{toVerification, leastQ, toMemory, leastM, toDisk, leastD, backD, backM, backQ, planMarks, bestQ}
 use Rattle.setting.proofs.Last.{last-marked, last-between, last-last, InOrder, last-in-order}
-use Rattle.setting.proofs.Search.{IsBack, back-from, back-first, bestQ}
+use Rattle.setting.proofs.Search.{IsBack, back-from, back-first}
 use Rattle.setting.proofs.Lower.{S-mono, AtLeast, setting-at-least}
 use Rattle.setting.proofs.Attained.{Follows, plan-follows, plan-setting}
 use Rattle.setting.proofs.Order.{last-same, listed-compare}

@@ -10,8 +10,8 @@ use native.Mathlib.Omega.{arith}
 use borrow.Author.Tests.{eq-eqb, ne-eqb}
 use Rattle.setting.specs.Chain.{Chain}
 use Rattle.setting.specs.Time.{verification, memory, disk, S}
-use Rattle.setting.specs.Search.{toVerification, leastQ, toMemory, leastM, toDisk, leastD, backD, backM, backQ, planTo}
-use Rattle.setting.proofs.Search.{bestQ, IsBack, back-is, back-le}
+use Rattle.setting.specs.Search.{toVerification, leastQ, toMemory, leastM, toDisk, leastD, backD, backM, backQ, planTo, bestQ, State}
+use Rattle.setting.proofs.Search.{IsBack, back-is, back-le}
 
 module _ (c : Chain) (N v : ℕ) (h : 0 < v) (l : leastD c N v < N) where
   diskBack : IsBack N 0 (toDisk c N) v (backD c N v)
@@ -75,19 +75,6 @@ module _ (c : Chain) (N d m v : ℕ) (h : m < v) (l : bestQ c N d m v < N) where
   unfolding leastQ toVerification
   backQ-arrives = rw backQ-allowed at (verificationBack .arrives)
 
--- a state of the walk: v has mark k, the last copies before it are d and m, and all least times are below N
-pub record State (c : Chain) (N k d m v : ℕ) : Type 0 where
-  pub low : verification ≤ k
-  pub high : k ≤ disk
-  pub d-m : d ≤ m
-  pub m-v : m < v
-  pub on-disk : leastD c N d < N
-  pub in-memory : leastM c N d m < N
-  pub verified : bestQ c N d m v < N
-  -- a memory copy comes from its back position, and so does a disk copy
-  pub is-m : memory ≤ k → m ≡ backM c N d v
-  pub is-d : disk ≤ k → d ≡ backD c N v
-
 module _ (c : Chain) (N : ℕ) where
   -- from each state the walk goes on to the mark before v, or to the memory copy m, or to the disk copy d; it starts at a disk copy
   pub state-mark : (k d m v : ℕ) → State c N k d m v → backQ c N d m v ≢ m → State c N 1 d m (backQ c N d m v)
@@ -103,9 +90,9 @@ module _ (c : Chain) (N : ℕ) where
     is-d = λ h. absurd (omega arith);
   }
 
-  copied : (k d v : ℕ) → verification ≤ k → k ≤ disk → d < v → leastD c N d < N → leastM c N d v < N → (disk ≤ k → d ≡ backD c N v)
+  pub state-copy : (k d v : ℕ) → verification ≤ k → k ≤ disk → d < v → leastD c N d < N → leastM c N d v < N → (disk ≤ k → d ≡ backD c N v)
       → State c N k d (backM c N d v) v
-  copied k d v low high h ld lm is-d = record {
+  state-copy k d v low high h ld lm is-d = record {
     low = low;
     high = high;
     d-m = backM-ge c N d v h lm;
@@ -119,11 +106,11 @@ module _ (c : Chain) (N : ℕ) where
 
   pub state-memory : (k d m v : ℕ) → State c N k d m v → m ≢ d → State c N 2 d (backM c N d m) m
   state-memory k d m v s e =
-      copied 2 d m (omega arith) (omega arith) (omega arith) (s .on-disk) (s .in-memory) (λ h. absurd (omega arith))
+      state-copy 2 d m (omega arith) (omega arith) (omega arith) (s .on-disk) (s .in-memory) (λ h. absurd (omega arith))
 
   pub state-disk : (v : ℕ) → 0 < v → leastD c N v < N → State c N 3 (backD c N v) (backM c N (backD c N v) v) v
   state-disk v h l =
-      copied 3 (backD c N v) v (omega arith) (omega arith) (backD-lt c N v h l) (backD-reached c N v h l)
+      state-copy 3 (backD c N v) v (omega arith) (omega arith) (backD-lt c N v h l) (backD-reached c N v h l)
       (omega (arith, backD-arrives c N v h l)) (λ _. refl)
 
 -- the marks of a state: k at v, and below v those of the state before

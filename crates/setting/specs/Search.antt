@@ -1,10 +1,11 @@
 -- The search for a plan, over any chain of costs: least times by position, earliest previous positions, and the marks that these give.
 -- N stands for 'none': no way is kept that takes N ticks or more.
-use Prim.Native.Nat.{ℕ, zero, suc, _+_}
+use Prim.Native.Nat.{ℕ, zero, suc, _+_, _≤_, _<_}
+use mathlib.Core.Path.{_≡_}
 use lib.Dec.{leb, ltb, eqb}
 use Rattle.units.specs.Choice.{ite}
 use Rattle.setting.specs.Chain.{Chain}
-use Rattle.setting.specs.Time.{Marks, S}
+use Rattle.setting.specs.Time.{Marks, verification, memory, disk, S}
 
 -- the least of N and of c at the positions below k
 unfoldable pub least : ℕ → (ℕ → ℕ) → ℕ → ℕ
@@ -88,3 +89,20 @@ module _ (c : Chain) (N : ℕ) where
   -- the marks that the search gives for n tasks
   unfoldable pub planMarks : ℕ → Marks
   planMarks n = planTo n 3 (backD n) (backM (backD n) n) n
+
+-- the least Q(v) with the last copies d and m, where the time M' at m is least too
+abbrev pub bestQ : Chain → ℕ → (d m v : ℕ) → ℕ
+bestQ c N d m v = leastQ c N d m (leastM c N d m) v
+
+-- a state of the walk: v has mark k, the last copies before it are d and m, and all least times are below N
+pub record State (c : Chain) (N k d m v : ℕ) : Type 0 where
+  pub low : verification ≤ k
+  pub high : k ≤ disk
+  pub d-m : d ≤ m
+  pub m-v : m < v
+  pub on-disk : leastD c N d < N
+  pub in-memory : leastM c N d m < N
+  pub verified : bestQ c N d m v < N
+  -- a memory copy comes from its back position, and so does a disk copy
+  pub is-m : memory ≤ k → m ≡ backM c N d v
+  pub is-d : disk ≤ k → d ≡ backD c N v
