@@ -24,13 +24,14 @@ use Rattle.search.specs.Table.{tableLength, pairAt, entryOf, Tabled, Tot
 -- one total more
 pub totals-more : (w : List ℕ) (j : ℕ) (sums : List ℕ) → Totals w j sums → j + 1 < positions → Totals w (j + 1) (set sums (j + 1) (getD sums j 0 + weightAt w j))
 totals-more w j sums h l =
-    record
-      { long = length-set sums (j + 1) _ ∙ h .long
-      ; sums-at = λ v k. at v k (ℕ-discrete v (j + 1))
-      }
+    record {
+      long = length-set sums (j + 1) _ ∙ h .long;
+      sums-at = λ v k. at v k (ℕ-discrete v (j + 1));
+    }
   where
     next : ℕ
     next = getD sums j 0 + weightAt w j
+
     at : (v : ℕ) → v ≤ j + 1 → Dec (v ≡ j + 1) → getD (set sums (j + 1) next) v 0 ≡ total w v
     at v k (yes e) = rw (e, getD-set-same sums (j + 1) next 0 (omega (arith, h .long)), h .sums-at j (omega arith), total-more w j)
     at v k (no e) = getD-set-other sums (j + 1) v next 0 e ∙ h .sums-at v (omega arith)
@@ -46,11 +47,11 @@ totals-between w k sums h u v a b = rw (h .sums-at u a, h .sums-at v b)
 
 pub totals-growing : (job : Job) → Sound job → (sums : List ℕ) → Totals (job .weights) (job .tasks) sums → Growing (job .tasks) sums
 totals-growing job s sums h =
-    record
-      { long = h .long
-      ; grows = λ u v a b. rw (h .sums-at u (omega arith), h .sums-at v b) (total-mono (job .weights) u v a)
-      ; capped = λ v a. rw (h .sums-at v a) (totals-range job s v a)
-      }
+    record {
+      long = h .long;
+      grows = λ u v a b. rw (h .sums-at u (omega arith), h .sums-at v b) (total-mono (job .weights) u v a);
+      capped = λ v a. rw (h .sums-at v a) (totals-range job s v a);
+    }
 
 -- the table with the factors f at i
 abbrev pub put : List ℕ → ℕ → Factors → List ℕ
@@ -96,10 +97,10 @@ module _ (platform : Platform) (n : ℕ) (few : n < positions) (W : ℕ → ℕ 
   -- a pair that is no stretch of the job is passed over
   pub tabled-skip : (p / positions < p % positions → p % positions ≤ n → ⊥) → Tabled platform n W (p + 1) t
   tabled-skip none =
-      record
-        { long = h .long
-        ; pairs = λ u v k l m. at u v k l m (decLt (positions * u + v) p)
-        }
+      record {
+        long = h .long;
+        pairs = λ u v k l m. at u v k l m (decLt (positions * u + v) p);
+      }
     where
       at : (u v : ℕ) → u < v → v ≤ n → positions * u + v < p + 1 → Dec (positions * u + v < p) → entryOf t u v ≡ factorsOf platform (W u v)
       at u v k l m (yes z) = h .pairs u v k l z
@@ -109,13 +110,14 @@ module _ (platform : Platform) (n : ℕ) (few : n < positions) (W : ℕ → ℕ 
   pub tabled-more : (f : Factors) → f ≡ factorsOf platform (W (p / positions) (p % positions)) → p < positions * positions → Tabled platform n W (p + 1) (put t (3 * p) f)
   unfolding entryOf
   tabled-more f e small =
-      record
-        { long = length-put t (3 * p) f ∙ h .long
-        ; pairs = λ u v k l m. at u v k l m (decLt (positions * u + v) p)
-        }
+      record {
+        long = length-put t (3 * p) f ∙ h .long;
+        pairs = λ u v k l m. at u v k l m (decLt (positions * u + v) p);
+      }
     where
       room : 3 * p + 2 < length t
       room = omega (arith, h .long)
+
       at : (u v : ℕ) → u < v → v ≤ n → positions * u + v < p + 1 → Dec (positions * u + v < p) → entryOf (put t (3 * p) f) u v ≡ factorsOf platform (W u v)
       at u v k l m (yes z) =
           rw (put-before t (3 * p) f (pairAt u v) (omega arith), put-before t (3 * p) f (pairAt u v + 1) (omega arith), put-before t (3 * p) f (pairAt u v + 2) (omega arith))

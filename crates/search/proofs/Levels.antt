@@ -61,26 +61,26 @@ module _ (N b : ℕ) (cost cost' : Cost) (top : ℕ) (same : (u t v : ℕ) → b
   pub filled-agree : (time before : List ℕ) → Filled N b cost top time before → Filled N b cost' top time before
   unfolding back
   filled-agree time before f =
-      record
-        { times-long = f .times-long
-        ; backs-long = f .backs-long
-        ; times = λ v h. f .times v h ∙ reach-agree v h
-        ; backs = λ v h e. f .backs v h e ∙ least-agree N _ _ v (λ u m. way-agree v u m h (reach-agree u (omega arith))) .1
-        }
+      record {
+        times-long = f .times-long;
+        backs-long = f .backs-long;
+        times = λ v h. f .times v h ∙ reach-agree v h;
+        backs = λ v h e. f .backs v h e ∙ least-agree N _ _ v (λ u m. way-agree v u m h (reach-agree u (omega arith))) .1;
+      }
 
 -- offers that agree after u
 pub offered-agree : (time before : List ℕ) (u e : ℕ) (c c' : ℕ → ℕ) (time' before' : List ℕ) → ((w : ℕ) → u < w → w < e → c w ≡ c' w) → Offered time before u e c time' before' → Offered time before u e c' time' before'
 offered-agree time before u e c c' time' before' same o =
-    record
-      { times-long = o .times-long
-      ; backs-long = o .backs-long
-      ; time-at = λ w a b. o .time-at w a b ∙ rw (same w a b)
-      ; back-at = λ w a b. o .back-at w a b ∙ rw (same w a b)
-      ; time-early = o .time-early
-      ; back-early = o .back-early
-      ; time-late = o .time-late
-      ; back-late = o .back-late
-      }
+    record {
+      times-long = o .times-long;
+      backs-long = o .backs-long;
+      time-at = λ w a b. o .time-at w a b ∙ rw (same w a b);
+      back-at = λ w a b. o .back-at w a b ∙ rw (same w a b);
+      time-early = o .time-early;
+      back-early = o .back-early;
+      time-late = o .time-late;
+      back-late = o .back-late;
+    }
 
 module _ (job : Job) (sound : Sound job) (t : List ℕ) (table : TableOf job t) where
   entry-is : (u v : ℕ) → u < v → v ≤ job .tasks → entryOf t u v ≡ factorsOf (job .platform) (between (job .weights) u v)
@@ -112,6 +112,7 @@ module _ (job : Job) (sound : Sound job) (t : List ℕ) (table : TableOf job t) 
     where
       some : stretchAllowed job u v ≡ true → entryOf t u v .error ≢ 0
       some e = let f = allowed-factored u v a b e in λ z. omega (arith, f .silent, f .error)
+
       go : (x : Bool) → stretchAllowed job u v ≡ x → arrivalAt t (fromDisk (job .platform) d + M') (fromMemory (job .platform) m) u q v ≡ toVerification (chainOf job) none d m M' u q v
       go true e = arrival-some t _ _ u q v (some e) ∙ rw (e, entry-is u v a b)
       go false e = arrival-none t _ _ u q v (not-allowed u v a b e) ∙ rw e

@@ -37,13 +37,13 @@ module _ (N b : ℕ) (cost : Cost) (top : ℕ) where
   -- a fresh row says none at each position, and 0 at its start
   pub turn-first : b ≤ top → top < positions → (time before : List ℕ) → time ≡ replicate positions N → before ≡ replicate positions 0 → Turn N b cost top b (set time b 0) before
   turn-first h l time before p q =
-      record
-        { times-long = length-set time b 0 ∙ rw p (length-replicate positions N)
-        ; backs-long = rw q (length-replicate {A = ℕ} positions 0)
-        ; start = getD-set-same time b 0 0 (rw p (omega (arith, length-replicate positions N)))
-        ; time-at = λ v k e. getD-set-other time b v 0 0 e ∙ rw p (getD-replicate positions v N 0 (omega arith)) ∙ sym (none v .0)
-        ; back-at = λ v k e. rw q (getD-replicate positions v 0 0 (omega arith)) ∙ sym (none v .1)
-        }
+      record {
+        times-long = length-set time b 0 ∙ rw p (length-replicate positions N);
+        backs-long = rw q (length-replicate {A = ℕ} positions 0);
+        start = getD-set-same time b 0 0 (rw p (omega (arith, length-replicate positions N)));
+        time-at = λ v k e. getD-set-other time b v 0 0 e ∙ rw p (getD-replicate positions v N 0 (omega arith)) ∙ sym (none v .0);
+        back-at = λ v k e. rw q (getD-replicate positions v 0 0 (omega arith)) ∙ sym (none v .1);
+      }
     where
       none : (v : ℕ) → (least N (way N b cost v) (min b v) ≡ N) × (earliest N (way N b cost v) (min b v) ≡ 0)
       none v = least-none N (way N b cost v) (min b v) (λ j m. way-before N b cost v j (omega arith))
@@ -67,13 +67,13 @@ module _ (N b : ℕ) (cost : Cost) (top : ℕ) where
     -- where k is not reached, its turn changes nothing
     pub turn-none : b ≤ k → k ≤ top → N ≤ getD time k 0 → Turn N b cost top (k + 1) time before
     turn-none h l n =
-        record
-          { times-long = turn .times-long
-          ; backs-long = turn .backs-long
-          ; start = turn .start
-          ; time-at = λ v m e. turn .time-at v m e ∙ same v (decLt k v) .0
-          ; back-at = λ v m e. turn .back-at v m e ∙ same v (decLt k v) .1
-          }
+        record {
+          times-long = turn .times-long;
+          backs-long = turn .backs-long;
+          start = turn .start;
+          time-at = λ v m e. turn .time-at v m e ∙ same v (decLt k v) .0;
+          back-at = λ v m e. turn .back-at v m e ∙ same v (decLt k v) .1;
+        }
       where
         same : (v : ℕ) → Dec (k < v) → (least N (way N b cost v) (min k v) ≡ least N (way N b cost v) (min (k + 1) v)) × (earliest N (way N b cost v) (min k v) ≡ earliest N (way N b cost v) (min (k + 1) v))
         same v (yes m) =
@@ -91,16 +91,17 @@ module _ (N b : ℕ) (cost : Cost) (top : ℕ) where
         → Offered time before k (top + 1) c time' before' → Turn N b cost top (k + 1) time' before'
     unfolding least earliest
     turn-offers h l r c time' before' is o =
-        record
-          { times-long = o .times-long ∙ turn .times-long
-          ; backs-long = o .backs-long ∙ turn .backs-long
-          ; start = o .time-early b h ∙ turn .start
-          ; time-at = λ v m e. at v m e (decLt k v) .0
-          ; back-at = λ v m e. at v m e (decLt k v) .1
-          }
+        record {
+          times-long = o .times-long ∙ turn .times-long;
+          backs-long = o .backs-long ∙ turn .backs-long;
+          start = o .time-early b h ∙ turn .start;
+          time-at = λ v m e. at v m e (decLt k v) .0;
+          back-at = λ v m e. at v m e (decLt k v) .1;
+        }
       where
         offer : (v : ℕ) → v ≤ top → k < v → way N b cost v k ≡ c v
         offer v m q = way-is N b cost v k h (omega (arith, turn-now h l)) ∙ rw (← (turn-now h l)) (sym (is v q m))
+
         at : (v : ℕ) → v ≤ top → v ≢ b → Dec (k < v) → (getD time' v 0 ≡ least N (way N b cost v) (min (k + 1) v)) × (getD before' v 0 ≡ earliest N (way N b cost v) (min (k + 1) v))
         at v m e (yes q) =
             let p : min k v ≡ k = omega arith in
@@ -117,12 +118,12 @@ module _ (N b : ℕ) (cost : Cost) (top : ℕ) where
     pub turn-last : top ≤ k → Filled N b cost top time before
     unfolding back
     turn-last h =
-        record
-          { times-long = turn .times-long
-          ; backs-long = turn .backs-long
-          ; times = λ v l. at v l (ℕ-discrete v b)
-          ; backs = λ v l e. let m : min k v ≡ v = omega arith in rw m at (turn .back-at v l e)
-          }
+        record {
+          times-long = turn .times-long;
+          backs-long = turn .backs-long;
+          times = λ v l. at v l (ℕ-discrete v b);
+          backs = λ v l e. let m : min k v ≡ v = omega arith in rw m at (turn .back-at v l e);
+        }
       where
         at : (v : ℕ) → v ≤ top → Dec (v ≡ b) → getD time v 0 ≡ reach N b cost v
         at v l (yes e) = rw e (turn .start ∙ sym (reach-start N b cost))
@@ -131,39 +132,42 @@ module _ (N b : ℕ) (cost : Cost) (top : ℕ) where
 -- one offer more: the lesser of the two times at v, and the way that gave it
 pub offered-none : (time before : List ℕ) (u : ℕ) (c : ℕ → ℕ) → Offered time before u (u + 1) c time before
 offered-none time before u c =
-    record
-      { times-long = refl
-      ; backs-long = refl
-      ; time-at = λ w a b. absurd (omega arith)
-      ; back-at = λ w a b. absurd (omega arith)
-      ; time-early = λ w a. refl
-      ; back-early = λ w a. refl
-      ; time-late = λ w a. refl
-      ; back-late = λ w a. refl
-      }
+    record {
+      times-long = refl;
+      backs-long = refl;
+      time-at = λ w a b. absurd (omega arith);
+      back-at = λ w a b. absurd (omega arith);
+      time-early = λ w a. refl;
+      back-early = λ w a. refl;
+      time-late = λ w a. refl;
+      back-late = λ w a. refl;
+    }
 
 module _ (time before : List ℕ) (u v : ℕ) (c : ℕ → ℕ) (time' before' : List ℕ) (o : Offered time before u v c time' before') (h : u < v) where
   pub offered-more : v < length time → v < length before
       → Offered time before u (v + 1) c (set time' v (ite (ltb (c v) (getD time' v 0)) (c v) (getD time' v 0))) (set before' v (ite (ltb (c v) (getD time' v 0)) u (getD before' v 0)))
   offered-more l m =
-      record
-        { times-long = length-set time' v _ ∙ o .times-long
-        ; backs-long = length-set before' v _ ∙ o .backs-long
-        ; time-at = λ w a b. time-here w a b (ℕ-discrete w v)
-        ; back-at = λ w a b. back-here w a b (ℕ-discrete w v)
-        ; time-early = λ w a. getD-set-other time' v w _ 0 (λ e. omega arith) ∙ o .time-early w a
-        ; back-early = λ w a. getD-set-other before' v w _ 0 (λ e. omega arith) ∙ o .back-early w a
-        ; time-late = λ w a. getD-set-other time' v w _ 0 (λ e. omega arith) ∙ o .time-late w (omega arith)
-        ; back-late = λ w a. getD-set-other before' v w _ 0 (λ e. omega arith) ∙ o .back-late w (omega arith)
-        }
+      record {
+        times-long = length-set time' v _ ∙ o .times-long;
+        backs-long = length-set before' v _ ∙ o .backs-long;
+        time-at = λ w a b. time-here w a b (ℕ-discrete w v);
+        back-at = λ w a b. back-here w a b (ℕ-discrete w v);
+        time-early = λ w a. getD-set-other time' v w _ 0 (λ e. omega arith) ∙ o .time-early w a;
+        back-early = λ w a. getD-set-other before' v w _ 0 (λ e. omega arith) ∙ o .back-early w a;
+        time-late = λ w a. getD-set-other time' v w _ 0 (λ e. omega arith) ∙ o .time-late w (omega arith);
+        back-late = λ w a. getD-set-other before' v w _ 0 (λ e. omega arith) ∙ o .back-late w (omega arith);
+      }
     where
       best : ℕ
       best = ite (ltb (c v) (getD time' v 0)) (c v) (getD time' v 0)
+
       from : ℕ
       from = ite (ltb (c v) (getD time' v 0)) u (getD before' v 0)
+
       time-here : (w : ℕ) → u < w → w < v + 1 → Dec (w ≡ v) → getD (set time' v best) w 0 ≡ ite (ltb (c w) (getD time w 0)) (c w) (getD time w 0)
       time-here w a b (yes e) = rw (e, getD-set-same time' v best 0 (omega (arith, o .times-long)), o .time-late v (omega arith))
       time-here w a b (no e) = getD-set-other time' v w best 0 e ∙ o .time-at w a (omega arith)
+
       back-here : (w : ℕ) → u < w → w < v + 1 → Dec (w ≡ v) → getD (set before' v from) w 0 ≡ ite (ltb (c w) (getD time w 0)) u (getD before w 0)
       back-here w a b (yes e) = rw (e, getD-set-same before' v from 0 (omega (arith, o .backs-long)), o .time-late v (omega arith), o .back-late v (omega arith))
       back-here w a b (no e) = getD-set-other before' v w from 0 e ∙ o .back-at w a (omega arith)
@@ -171,20 +175,21 @@ module _ (time before : List ℕ) (u v : ℕ) (c : ℕ → ℕ) (time' before' :
   -- an offer that is no less changes nothing
   pub offered-same : getD time v 0 ≤ c v → Offered time before u (v + 1) c time' before'
   offered-same n =
-      record
-        { times-long = o .times-long
-        ; backs-long = o .backs-long
-        ; time-at = λ w a b. time-here w a b (ℕ-discrete w v)
-        ; back-at = λ w a b. back-here w a b (ℕ-discrete w v)
-        ; time-early = o .time-early
-        ; back-early = o .back-early
-        ; time-late = λ w a. o .time-late w (omega arith)
-        ; back-late = λ w a. o .back-late w (omega arith)
-        }
+      record {
+        times-long = o .times-long;
+        backs-long = o .backs-long;
+        time-at = λ w a b. time-here w a b (ℕ-discrete w v);
+        back-at = λ w a b. back-here w a b (ℕ-discrete w v);
+        time-early = o .time-early;
+        back-early = o .back-early;
+        time-late = λ w a. o .time-late w (omega arith);
+        back-late = λ w a. o .back-late w (omega arith);
+      }
     where
       time-here : (w : ℕ) → u < w → w < v + 1 → Dec (w ≡ v) → getD time' w 0 ≡ ite (ltb (c w) (getD time w 0)) (c w) (getD time w 0)
       time-here w a b (yes e) = rw (e, le-ltb (c v) (getD time v 0) n) (o .time-late v (omega arith))
       time-here w a b (no e) = o .time-at w a (omega arith)
+
       back-here : (w : ℕ) → u < w → w < v + 1 → Dec (w ≡ v) → getD before' w 0 ≡ ite (ltb (c w) (getD time w 0)) u (getD before w 0)
       back-here w a b (yes e) = rw (e, le-ltb (c v) (getD time v 0) n) (o .back-late v (omega arith))
       back-here w a b (no e) = o .back-at w a (omega arith)

@@ -10,8 +10,8 @@ ghost use Rattle.pricing.specs.Chain.{chainOf};
 ghost use Rattle.pricing.specs.Carry.{none};
 ghost use Rattle.search.specs.Rows.{positions, Offered, Filled};
 ghost use Rattle.search.specs.Table.{tableLength, arrivalAt, TableOf, Usable};
-
-use crate::table::{POSITIONS, entry};
+use crate::table::POSITIONS;
+use crate::table::entry;
 use pricing::NONE;
 use sheet::Job;
 
@@ -28,7 +28,14 @@ fn offer(time: &mut [u64], before: &mut [usize], v: usize, u: usize, c: u64)
 }
 
 // The arrivals at copies from u: the time at u, the time of the part from u, and the cost of the copy.
-fn offer_copies(time: &mut [u64], before: &mut [usize], u: usize, part: &[u64], copy: u64, top: usize)
+fn offer_copies(
+    time: &mut [u64],
+    before: &mut [usize],
+    u: usize,
+    part: &[u64],
+    copy: u64,
+    top: usize,
+)
     requires { ⌜ (length (now time) ≡ positions) × (length (now before) ≡ positions) × (length (now part) ≡ positions) ⌝ }
     requires { ⌜ (u ≤ top) × (top < positions) × (copy ≤ costLimit) ⌝ }
     requires { ⌜ (getD (now time) u 0 ≤ none) × ((w : ℕ) → w ≤ top → getD (now part) w 0 ≤ none) ⌝ }
@@ -43,7 +50,16 @@ fn offer_copies(time: &mut [u64], before: &mut [usize], u: usize, part: &[u64], 
 }
 
 // The arrival at the verification v from that at u, if the stretch is allowed.
-fn offer_verification(time: &mut [u64], before: &mut [usize], t: &[u64], u: usize, v: usize, q: u64, disk: u64, memory: u64)
+fn offer_verification(
+    time: &mut [u64],
+    before: &mut [usize],
+    t: &[u64],
+    u: usize,
+    v: usize,
+    q: u64,
+    disk: u64,
+    memory: u64,
+)
     requires { ⌜ (v < length (now time)) × (v < length (now before)) × (getD (now time) v 0 ≤ none) ⌝ }
     requires { ⌜ (u < v) × (v < positions) × Usable v (now t) ⌝ }
     requires { ⌜ (q < none) × (disk ≤ none + costLimit) × (memory ≤ costLimit) ⌝ }
@@ -54,11 +70,25 @@ fn offer_verification(time: &mut [u64], before: &mut [usize], t: &[u64], u: usiz
     if f.error == 0 {
         return;
     }
-    offer(time, before, v, u, q + pricing::stretch_time(f, disk, q, memory));
+    offer(
+        time,
+        before,
+        v,
+        u,
+        q + pricing::stretch_time(f, disk, q, memory),
+    );
 }
 
 // The arrivals at verifications from u. The last copies are the same for all of them: disk is R_D' + M', memory is R_M'.
-fn offer_verifications(time: &mut [u64], before: &mut [usize], t: &[u64], u: usize, disk: u64, memory: u64, top: usize)
+fn offer_verifications(
+    time: &mut [u64],
+    before: &mut [usize],
+    t: &[u64],
+    u: usize,
+    disk: u64,
+    memory: u64,
+    top: usize,
+)
     requires { ⌜ (length (now time) ≡ positions) × (length (now before) ≡ positions) × Usable top (now t) ⌝ }
     requires { ⌜ (u ≤ top) × (top < positions) × (disk ≤ none + costLimit) × (memory ≤ costLimit) ⌝ }
     requires { ⌜ (getD (now time) u 0 < none) × ((w : ℕ) → w ≤ top → getD (now time) w 0 ≤ none) ⌝ }
@@ -73,7 +103,15 @@ fn offer_verifications(time: &mut [u64], before: &mut [usize], t: &[u64], u: usi
 }
 
 // The least Q(v) from the memory copy m, for each v up to the top, in fresh rows that the caller lends.
-pub fn verification_row(time: &mut [u64], before: &mut [usize], t: &[u64], m: usize, disk: u64, memory: u64, top: usize)
+pub fn verification_row(
+    time: &mut [u64],
+    before: &mut [usize],
+    t: &[u64],
+    m: usize,
+    disk: u64,
+    memory: u64,
+    top: usize,
+)
     requires { ⌜ (now time ≡ replicate positions none) × (now before ≡ replicate positions 0) × Usable top (now t) ⌝ }
     requires { ⌜ (m ≤ top) × (top < positions) × (disk ≤ none + costLimit) × (memory ≤ costLimit) ⌝ }
     ensures { λ _. ⌜ Filled none m (arrivalAt (now (t .entry)) disk memory) top (now (time .exit)) (now (before .exit)) ⌝ }
@@ -89,7 +127,15 @@ pub fn verification_row(time: &mut [u64], before: &mut [usize], t: &[u64], m: us
 }
 
 // The arrivals at memory copies from that at m, with the last disk copy d.
-fn offer_memory(time: &mut [u64], before: &mut [usize], t: &[u64], job: Job, d: usize, m: usize, top: usize)
+fn offer_memory(
+    time: &mut [u64],
+    before: &mut [usize],
+    t: &[u64],
+    job: Job,
+    d: usize,
+    m: usize,
+    top: usize,
+)
     requires { ⌜ (length (now time) ≡ positions) × (length (now before) ≡ positions) × TableOf job (now t) × Sound job ⌝ }
     requires { ⌜ (m ≤ top) × (top ≤ job .tasks) × (getD (now time) m 0 < none) ⌝ }
     ensures { λ _. ⌜ Offered (now (time .entry)) (now (before .entry)) m (top + 1) (toMemory (chainOf job) none d m (getD (now (time .entry)) m 0)) (now (time .exit)) (now (before .exit)) ⌝ }

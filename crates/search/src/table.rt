@@ -5,9 +5,9 @@ ghost use lib.ListN.{length, set};
 ghost use Rattle.sheet.specs.Job.{costLimit, Sound};
 ghost use Rattle.search.specs.Rows.{positions};
 ghost use Rattle.search.specs.Table.{tableLength, entryOf, Tabled, TableOf, Totals, Growing, difference};
-
 use pricing::Factors;
-use sheet::{Job, Platform};
+use sheet::Job;
+use sheet::Platform;
 
 // One entry for each position from 0 to 64.
 pub const POSITIONS: usize = 65;

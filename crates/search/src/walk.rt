@@ -9,12 +9,15 @@ ghost use Rattle.pricing.specs.Carry.{none};
 ghost use Rattle.search.specs.Rows.{Filled};
 ghost use Rattle.search.specs.Table.{TableOf};
 ghost use Rattle.search.specs.Walk.{DiskBacks, Walking, Before, PlannedMarks};
-
-use crate::rows::{memory_row, verification_row};
+use crate::rows::memory_row;
+use crate::rows::verification_row;
 use pricing::NONE;
 use sheet::Job;
 
+const VERIFICATION: u8 = 1;
+
 const MEMORY: u8 = 2;
+
 const DISK: u8 = 3;
 
 // A place of the walk: v has mark k, the last copies before it are d and m. `times` and `copies` are the memory row from d, `checks` the positions before
@@ -30,7 +33,15 @@ pub struct Walk {
 }
 
 // The place at the copy v with mark k, whose last disk copy is d.
-fn at_copy(t: &[u64], job: Job, k: u8, d: usize, v: usize, times: [u64; 65], copies: [usize; 65]) -> Walk
+fn at_copy(
+    t: &[u64],
+    job: Job,
+    k: u8,
+    d: usize,
+    v: usize,
+    times: [u64; 65],
+    copies: [usize; 65],
+) -> Walk
     requires { ⌜ (TableOf job (now t)) × Sound job × (d < v) × (v ≤ job .tasks) ⌝ }
     requires { ⌜ (leastD (chainOf job) none d < none) × (leastM (chainOf job) none d v < none) ⌝ }
     requires { ⌜ (2 ≤ k) × (k ≤ 3) × (3 ≤ k → d ≡ backD (chainOf job) none v) ⌝ }
@@ -65,4 +76,61 @@ fn at_disk(t: &[u64], job: Job, backs: &[usize], v: usize) -> Walk
     let mut copies = [0usize; 65];
     memory_row(&mut times, &mut copies, t, job, d, v);
     at_copy(t, job, DISK, d, v, times, copies)
+}
+
+// The place before w; at 0 where the walk is over.
+fn step_back(t: &[u64], job: Job, backs: &[usize], w: Walk) -> Walk
+    requires { ⌜ (TableOf job (now t)) × Sound job × DiskBacks job (now backs) × Walking job w ⌝ }
+    ensures { λ r. ⌜ Before job w r ⌝ }
+{
+    let d = w.d;
+    let m = w.m;
+    let v = w.v;
+    let times = w.times;
+    let copies = w.copies;
+    let checks = w.checks;
+    let u = checks[v];
+    if u != m {
+        return Walk {
+            k: VERIFICATION,
+            d,
+            m,
+            v: u,
+            times,
+            copies,
+            checks,
+        };
+    }
+    if m != d {
+        return at_copy(t, job, MEMORY, d, m, times, copies);
+    }
+    if d != 0 {
+        return at_disk(t, job, backs, d);
+    }
+    Walk {
+        k: 0,
+        d,
+        m,
+        v: 0,
+        times,
+        copies,
+        checks,
+    }
+}
+
+// The marks of the plan, whose least time is below none.
+pub fn plan_marks(t: &[u64], job: Job, backs: &[usize]) -> [u8; 64]
+    requires { ⌜ (TableOf job (now t)) × Sound job × DiskBacks job (now backs) × (leastD (chainOf job) none (job .tasks) < none) ⌝ }
+    ensures { λ r. ⌜ PlannedMarks job r ⌝ }
+{
+    let job = job;
+    let mut marks = [0u8; 64];
+    let mut w = at_disk(t, job, backs, job.tasks);
+    while 0 < w.v {
+        let v = w.v;
+        let k = w.k;
+        marks[v - 1] = k;
+        w = step_back(t, job, backs, w);
+    }
+    marks
 }

@@ -11,9 +11,6 @@ use Rattle.search.specs.Rows.{positions}
 use Rattle.search.proofs.Turns.{Turn, turn-first, turn-none, turn-offers, turn-last}
 use Rattle.search.proofs.rows.memory_row.Statement.{statement}
 use Rattle.search.proofs.rows.memory_row.Tie as tie
-use Rattle.search.proofs.rows.memory_row.Reads as reads
-use Rattle.search.proofs.rows.memory_row.Lts as lts
-use Rattle.search.proofs.rows.offer_memory.Reads as offer-memory-reads
 
 abbrev Inv-loop : tie.InvT-loop
 Inv-loop time₀ before₀ t d top job m₀ time before m = (d ≤ m) × (m ≤ top) × Turn none d (toMemory (chainOf job) none d) top m time before
@@ -21,51 +18,39 @@ Inv-loop time₀ before₀ t d top job m₀ time before m = (d ≤ m) × (m ≤ 
 abbrev μ-loop : tie.MeasureT-loop
 μ-loop time₀ before₀ t d top job m₀ time before m = top - m
 
--- src/rows.rt:113:5
 mul-time : tie.Need-mul-time Inv-loop μ-loop
 mul-time c = omega (arith, c .before .before .before .pre .0 .3 .few-tasks, c .before .before .before .pre .1 .0, c .before .before .before .pre .1 .1)
 
--- src/rows.rt:113:5
 slice-write-time : tie.Need-slice-write-time Inv-loop μ-loop
 slice-write-time c = rw (c .before .before .before .pre .0 .0, length-replicate) (omega (arith, c .before .before .before .pre .0 .3 .few-tasks, c .before .before .before .pre .1 .0, c .before .before .before .pre .1 .1))
 
--- src/rows.rt:115:5
 loop-holds : tie.Need-loop-holds Inv-loop μ-loop
 loop-holds c = (omega arith, c .before .before .before .pre .1 .0, turn-first _ _ _ _ (c .before .before .before .pre .1 .0) (omega (arith, c .before .before .before .pre .0 .3 .few-tasks, c .before .before .before .pre .1 .1)) _ _ (c .before .before .before .pre .0 .0) (c .before .before .before .pre .0 .1))
 
--- src/rows.rt:116:12
 mul-if1 : tie.Need-mul-if1 Inv-loop μ-loop
 mul-if1 c = omega (arith, c .before .before .before .before .before .pre .0 .3 .few-tasks, c .before .before .before .before .before .pre .1 .1)
 
--- src/rows.rt:116:12
 slice-read-if1 : tie.Need-slice-read-if1 Inv-loop μ-loop
 slice-read-if1 c = omega (arith, c .before .before .loop .inv .2 .times-long, c .before .before .before .before .before .before .pre .0 .3 .few-tasks, c .before .before .before .before .before .before .pre .1 .1)
 
--- src/rows.rt:117:13
 offer-memory-requires : tie.Need-offer-memory-requires Inv-loop μ-loop
 offer-memory-requires c κs = ((c .before .before .before .before .before .loop .inv .2 .times-long, c .before .before .before .before .before .loop .inv .2 .backs-long, c .before .before .before .before .before .before .before .before .before .pre .0 .2, c .before .before .before .before .before .before .before .before .before .pre .0 .3), (c .before .before .before .before .before .loop .inv .1, c .before .before .before .before .before .before .before .before .before .pre .1 .1, c .before .before .if1 .taken))
 
--- src/rows.rt:119:9
 add-m : tie.Need-add-m Inv-loop μ-loop
 add-m c = omega (arith, c .before .before .before .before .before .before .before .pre .0 .3 .few-tasks, c .before .before .before .before .before .before .before .pre .1 .1)
 
--- src/rows.rt:115:5
 loop-less : tie.Need-loop-less Inv-loop μ-loop
 loop-less c = omega arith
 
--- src/rows.rt:115:5
 loop-again : tie.Need-loop-again Inv-loop μ-loop
 loop-again c = ⊎-elim (λ w. (omega arith, omega arith, rw (w .8, w .9) (turn-offers _ _ _ _ _ _ _ (c .before .before .before .loop .inv .2) (c .before .before .before .loop .inv .0) (c .before .before .before .loop .inv .1) (w .0 .taken) _ _ _ (λ v a b. refl) (w .3 .ensures)))) (λ w. (omega arith, omega arith, rw (w .1, w .2) (turn-none _ _ _ _ _ _ _ (c .before .before .before .loop .inv .2) (c .before .before .before .loop .inv .0) (c .before .before .before .loop .inv .1) (w .0 .left)))) (c .if1 .came)
 
--- src/rows.rt:107:1
 same-length : tie.Need-same-length Inv-loop μ-loop
 same-length c = c .before .loop .inv .2 .times-long ∙ rw (c .before .before .before .before .before .pre .0 .0) (sym (length-replicate positions none))
 
--- src/rows.rt:107:1
 same-length-2 : tie.Need-same-length-2 Inv-loop μ-loop
 same-length-2 c = c .before .loop .inv .2 .backs-long ∙ rw (c .before .before .before .before .before .pre .0 .1) (sym (length-replicate {A = ℕ} positions 0))
 
--- src/rows.rt:107:1
 returns : tie.Need-returns Inv-loop μ-loop
 returns c = turn-last _ _ _ _ _ _ _ (c .before .loop .inv .2) (omega arith)
 

@@ -4,46 +4,34 @@ use lib.Seq.{set-getD}
 use borrow.Author.Needs.{needs}
 use Rattle.search.proofs.rows.offer.Statement.{statement}
 use Rattle.search.proofs.rows.offer.Tie as tie
-use Rattle.search.proofs.rows.offer.Reads as reads
-use Rattle.search.proofs.rows.offer.Lts as lts
 
--- src/rows.rt:24:12
 mul-if1 : tie.Need-mul-if1
 mul-if1 c = search needs
 
--- src/rows.rt:24:12
 slice-read-if1 : tie.Need-slice-read-if1
 slice-read-if1 c = search needs
 
--- src/rows.rt:25:9
 mul-time : tie.Need-mul-time
 mul-time c = search needs
 
--- src/rows.rt:25:9
 slice-write-time : tie.Need-slice-write-time
 slice-write-time c = search needs
 
--- src/rows.rt:26:9
 mul-before : tie.Need-mul-before
 mul-before c = search needs
 
--- src/rows.rt:26:9
 slice-write-before : tie.Need-slice-write-before
 slice-write-before c = search needs
 
--- src/rows.rt:19:1
 same-length : tie.Need-same-length
 same-length c = search needs
 
--- src/rows.rt:19:1
 same-length-2 : tie.Need-same-length-2
 same-length-2 c = search needs
 
--- src/rows.rt:19:1
 returns : tie.Need-returns
 returns c = (rw (lt-ltb _ _ (c .if1 .taken)), rw (lt-ltb _ _ (c .if1 .taken)))
 
--- src/rows.rt:19:1
 returns-2 : tie.Need-returns-2
 returns-2 c = (rw (le-ltb _ _ (c .if1 .left)) (sym (set-getD _ _ 0)), rw (le-ltb _ _ (c .if1 .left)) (sym (set-getD _ _ 0)))
 

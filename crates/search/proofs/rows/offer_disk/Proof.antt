@@ -5,44 +5,31 @@ use Rattle.search.proofs.Levels.{offered-agree, disk-arrival}
 use borrow.Author.Needs.{needs}
 use Rattle.search.proofs.rows.offer_disk.Statement.{statement}
 use Rattle.search.proofs.rows.offer_disk.Tie as tie
-use Rattle.search.proofs.rows.offer_disk.Reads as reads
-use Rattle.search.proofs.rows.offer_disk.Lts as lts
-use Rattle.search.proofs.rows.memory_row.Reads as memory-row-reads
-use Rattle.search.proofs.rows.offer_copies.Reads as offer-copies-reads
 
--- src/rows.rt:132:16
 slice-aggregate-memory-row : tie.Need-slice-aggregate-memory-row
 slice-aggregate-memory-row c = search needs
 
--- src/rows.rt:132:25
 slice-aggregate-memory-row-2 : tie.Need-slice-aggregate-memory-row-2
 slice-aggregate-memory-row-2 c = search needs
 
--- src/rows.rt:132:5
 memory-row-requires : tie.Need-memory-row-requires
 memory-row-requires c κs = search needs
 
--- src/rows.rt:133:35
 slice-aggregate-offer-copies : tie.Need-slice-aggregate-offer-copies
 slice-aggregate-offer-copies c = search needs
 
--- src/rows.rt:133:40
 cast-offer-copies : tie.Need-cast-offer-copies
 cast-offer-copies c = search needs
 
--- src/rows.rt:133:5
 offer-copies-requires : tie.Need-offer-copies-requires
 offer-copies-requires c κs = ((c .before .before .before .before .before .before .before .before .before .before .before .before .before .pre .0 .0, c .before .before .before .before .before .before .before .before .before .before .before .before .before .pre .0 .1, c .before .before .before .before .before .before .memory-row .ensures .times-long), ((c .before .before .before .before .before .before .before .before .before .before .before .before .before .pre .1 .0, omega (arith, c .before .before .before .before .before .before .before .before .before .before .before .before .before .pre .0 .3 .few-tasks), c .before .before .before .before .before .before .before .before .before .before .before .before .before .pre .0 .3 .cd), (omega (arith, c .before .before .before .before .before .before .before .before .before .before .before .before .before .pre .1 .1), λ w h. rw (c .before .before .before .before .before .before .memory-row .ensures .times w h) (reach-cap _ _ _ w))))
 
--- src/rows.rt:123:1
 same-length : tie.Need-same-length
 same-length c = search needs
 
--- src/rows.rt:123:1
 same-length-2 : tie.Need-same-length-2
 same-length-2 c = search needs
 
--- src/rows.rt:123:1
 returns : tie.Need-returns
 returns c = offered-agree _ _ _ _ _ _ _ _ (λ w a b. disk-arrival (c .before .before .before .before .before .before .before .before .before .before .before .before .before .before .before .before .before .before .args .job) (c .before .before .before .before .before .before .before .before .before .before .before .before .before .before .before .before .before .before .args .d) (c .before .before .before .before .before .before .before .before .before .before .before .before .before .before .before .before .before .before .args .job .tasks) _ _ _ (c .before .before .before .before .before .before .before .before .before .before .before .memory-row .ensures) w (omega arith)) (c .before .before .before .before .offer-copies .ensures)
 

@@ -12,66 +12,46 @@ use Rattle.search.proofs.Levels.{table-usable, table-row, offered-agree
 use borrow.Author.Needs.{needs}
 use Rattle.search.proofs.rows.offer_memory.Statement.{statement}
 use Rattle.search.proofs.rows.offer_memory.Tie as tie
-use Rattle.search.proofs.rows.offer_memory.Reads as reads
-use Rattle.search.proofs.rows.offer_memory.Lts as lts
-use Rattle.marks.proofs.from_disk.Reads as from-disk-reads
-use Rattle.marks.proofs.from_memory.Reads as from-memory-reads
-use Rattle.search.proofs.rows.offer_copies.Reads as offer-copies-reads
-use Rattle.search.proofs.rows.verification_row.Reads as verification-row-reads
 
--- src/rows.rt:98:14
 mul-mt : tie.Need-mul-mt
 mul-mt c = search needs
 
--- src/rows.rt:98:14
 slice-read-mt : tie.Need-slice-read-mt
 slice-read-mt c = search needs
 
--- src/rows.rt:101:16
 from-disk-requires : tie.Need-from-disk-requires
 from-disk-requires c κs = search needs
 
--- src/rows.rt:101:16
 add-disk : tie.Need-add-disk
 add-disk c = omega (arith, c .from-disk .ensures, disk-range (c .before .before .before .before .before .before .args .job .platform) (c .before .before .before .before .before .before .args .d), c .before .before .before .before .before .before .pre .0 .3 .rd, c .before .before .before .before .before .before .pre .1 .2)
 
--- src/rows.rt:102:22
 slice-aggregate-verification-row : tie.Need-slice-aggregate-verification-row
 slice-aggregate-verification-row c = search needs
 
--- src/rows.rt:102:30
 slice-aggregate-verification-row-2 : tie.Need-slice-aggregate-verification-row-2
 slice-aggregate-verification-row-2 c = search needs
 
--- src/rows.rt:102:53
 from-memory-requires : tie.Need-from-memory-requires
 from-memory-requires c κs = search needs
 
--- src/rows.rt:102:5
 verification-row-requires : tie.Need-verification-row-requires
 verification-row-requires c κs = ((refl, refl, usable-less _ _ _ (c .before .before .before .before .before .before .before .before .before .pre .1 .1) (table-usable _ (c .before .before .before .before .before .before .before .before .before .pre .0 .3) _ (c .before .before .before .before .before .before .before .before .before .pre .0 .2))), (c .before .before .before .before .before .before .before .before .before .pre .1 .0, omega (arith, c .before .before .before .before .before .before .before .before .before .pre .1 .1, c .before .before .before .before .before .before .before .before .before .pre .0 .3 .few-tasks), omega (arith, c .before .before .before .from-disk .ensures, disk-range (c .before .before .before .before .before .before .before .before .before .args .job .platform) (c .before .before .before .before .before .before .before .before .before .args .d), c .before .before .before .before .before .before .before .before .before .pre .0 .3 .rd, c .before .before .before .before .before .before .before .before .before .pre .1 .2), omega (arith, c .from-memory .ensures, memory-range (c .before .before .before .before .before .before .before .before .before .args .job .platform) (c .before .before .before .before .before .before .before .before .before .args .m), c .before .before .before .before .before .before .before .before .before .pre .0 .3 .rm)))
 
--- src/rows.rt:103:35
 slice-aggregate-offer-copies : tie.Need-slice-aggregate-offer-copies
 slice-aggregate-offer-copies c = search needs
 
--- src/rows.rt:103:39
 cast-offer-copies : tie.Need-cast-offer-copies
 cast-offer-copies c = search needs
 
--- src/rows.rt:103:5
 offer-copies-requires : tie.Need-offer-copies-requires
 offer-copies-requires c κs = ((c .before .before .before .before .before .before .before .before .before .before .before .before .before .before .before .before .pre .0 .0, c .before .before .before .before .before .before .before .before .before .before .before .before .before .before .before .before .pre .0 .1, c .before .before .before .before .before .before .verification-row .ensures .times-long), ((c .before .before .before .before .before .before .before .before .before .before .before .before .before .before .before .before .pre .1 .0, omega (arith, c .before .before .before .before .before .before .before .before .before .before .before .before .before .before .before .before .pre .1 .1, c .before .before .before .before .before .before .before .before .before .before .before .before .before .before .before .before .pre .0 .3 .few-tasks), c .before .before .before .before .before .before .before .before .before .before .before .before .before .before .before .before .pre .0 .3 .cm), (omega (arith, c .before .before .before .before .before .before .before .before .before .before .before .before .before .before .before .before .pre .1 .2), λ w h. rw (c .before .before .before .before .before .before .verification-row .ensures .times w h) (reach-cap _ _ _ w))))
 
--- src/rows.rt:92:1
 same-length : tie.Need-same-length
 same-length c = search needs
 
--- src/rows.rt:92:1
 same-length-2 : tie.Need-same-length-2
 same-length-2 c = search needs
 
--- src/rows.rt:92:1
 returns : tie.Need-returns
 returns c = offered-agree _ _ _ _ _ _ _ _ (λ w a b. memory-arrival (c .before .before .before .before .before .before .before .before .before .before .before .before .before .before .before .before .before .before .before .before .before .args .job) (c .before .before .before .before .before .before .before .before .before .before .before .before .before .before .before .before .before .before .before .before .before .args .d) (c .before .before .before .before .before .before .before .before .before .before .before .before .before .before .before .before .before .before .before .before .before .args .top) _ _ _ _ (table-row _ (c .before .before .before .before .before .before .before .before .before .before .before .before .before .before .before .before .before .before .before .before .before .pre .0 .3) _ (c .before .before .before .before .before .before .before .before .before .before .before .before .before .before .before .before .before .before .before .before .before .pre .0 .2) _ _ _ _ (c .before .before .before .before .before .before .before .before .before .before .before .before .before .before .before .before .before .before .before .before .before .pre .1 .1) _ _ (rw (c .before .before .before .before .before .before .before .before .before .before .before .before .before .before .before .from-disk .ensures, c .before .before .before .before .before .before .before .before .before .before .before .before .from-memory .ensures) at (c .before .before .before .before .before .before .before .before .before .before .before .verification-row .ensures))) w (omega arith)) (c .before .before .before .before .offer-copies .ensures)
 

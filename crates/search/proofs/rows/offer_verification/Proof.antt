@@ -8,41 +8,28 @@ use Rattle.search.proofs.Entries.{arrival-none, arrival-some, offers-no
 use borrow.Author.Needs.{needs}
 use Rattle.search.proofs.rows.offer_verification.Statement.{statement}
 use Rattle.search.proofs.rows.offer_verification.Tie as tie
-use Rattle.search.proofs.rows.offer_verification.Reads as reads
-use Rattle.search.proofs.rows.offer_verification.Lts as lts
-use Rattle.pricing.proofs.stretch_time.Reads as stretch-time-reads
-use Rattle.search.proofs.rows.offer.Reads as offer-reads
-use Rattle.search.proofs.table.entry.Reads as entry-reads
 
--- src/rows.rt:53:9
 entry-requires : tie.Need-entry-requires
 entry-requires c κs = search needs
 
--- src/rows.rt:55:9
 returns : tie.Need-returns
 returns c = offers-nothing (c .before .before .before .before .before .before .args .time .now) (c .before .before .before .before .before .before .args .before .now) (c .before .before .before .before .before .before .args .v) (c .before .before .before .before .before .before .args .u) (arrivalAt (c .before .before .before .before .before .before .args .t .now) (c .before .before .before .before .before .before .args .disk) (c .before .before .before .before .before .before .args .memory) (c .before .before .before .before .before .before .args .u) (c .before .before .before .before .before .before .args .q) (c .before .before .before .before .before .before .args .v)) (rw (arrival-none (c .before .before .before .before .before .before .args .t .now) (c .before .before .before .before .before .before .args .disk) (c .before .before .before .before .before .before .args .memory) (c .before .before .before .before .before .before .args .u) (c .before .before .before .before .before .before .args .q) (c .before .before .before .before .before .before .args .v) (ap (λ (x : Factors). x .error) (sym (c .before .before .entry .ensures)) ∙ c .if1 .taken)) (c .before .before .before .before .before .before .pre .0 .2))
 
--- src/rows.rt:57:35
 stretch-time-requires : tie.Need-stretch-time-requires
 stretch-time-requires c κs = (rw (c .before .before .before .before .entry .ensures) (c .before .before .before .before .before .before .before .before .pre .1 .0 .2 .factored _ _ (c .before .before .before .before .before .before .before .before .pre .1 .0 .0) (omega arith) (λ z. c .before .before .if1 .left (ap (λ (x : Factors). x .error) (c .before .before .before .before .entry .ensures) ∙ z))), (omega (arith, c .before .before .before .before .before .before .before .before .pre .1 .1 .1), c .before .before .before .before .before .before .before .before .pre .1 .1 .0, c .before .before .before .before .before .before .before .before .pre .1 .1 .2))
 
--- src/rows.rt:57:31
 add-offer : tie.Need-add-offer
 add-offer c = search needs
 
--- src/rows.rt:57:5
 offer-requires : tie.Need-offer-requires
 offer-requires c κs = search needs
 
--- src/rows.rt:46:1
 same-length : tie.Need-same-length
 same-length c = search needs
 
--- src/rows.rt:46:1
 same-length-2 : tie.Need-same-length-2
 same-length-2 c = search needs
 
--- src/rows.rt:46:1
 returns-2 : tie.Need-returns-2
 returns-2 c = let a : arrivalAt (c .before .before .before .before .before .before .before .before .before .before .before .before .before .before .args .t .now) (c .before .before .before .before .before .before .before .before .before .before .before .before .before .before .args .disk) (c .before .before .before .before .before .before .before .before .before .before .before .before .before .before .args .memory) (c .before .before .before .before .before .before .before .before .before .before .before .before .before .before .args .u) (c .before .before .before .before .before .before .before .before .before .before .before .before .before .before .args .q) (c .before .before .before .before .before .before .before .before .before .before .before .before .before .before .args .v) ≡ c .before .before .before .before .before .before .before .before .before .before .before .before .before .before .args .q + c .before .before .before .before .before .stretch-time .result = rw (c .before .before .before .before .before .stretch-time .ensures .0, c .before .before .before .before .before .before .before .before .before .before .entry .ensures) (arrival-some (c .before .before .before .before .before .before .before .before .before .before .before .before .before .before .args .t .now) (c .before .before .before .before .before .before .before .before .before .before .before .before .before .before .args .disk) (c .before .before .before .before .before .before .before .before .before .before .before .before .before .before .args .memory) (c .before .before .before .before .before .before .before .before .before .before .before .before .before .before .args .u) (c .before .before .before .before .before .before .before .before .before .before .before .before .before .before .args .q) (c .before .before .before .before .before .before .before .before .before .before .before .before .before .before .args .v) (λ z. c .before .before .before .before .before .before .before .before .if1 .left (ap (λ (x : Factors). x .error) (c .before .before .before .before .before .before .before .before .before .before .entry .ensures) ∙ z))) in rw a (c .before .before .before .before .offer .ensures .0, c .before .before .before .before .offer .ensures .1)
 

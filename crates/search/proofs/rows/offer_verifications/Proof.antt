@@ -9,9 +9,6 @@ use Rattle.search.specs.Table.{arrivalAt}
 use Rattle.search.proofs.Turns.{offered-none, offered-more}
 use Rattle.search.proofs.rows.offer_verifications.Statement.{statement}
 use Rattle.search.proofs.rows.offer_verifications.Tie as tie
-use Rattle.search.proofs.rows.offer_verifications.Reads as reads
-use Rattle.search.proofs.rows.offer_verifications.Lts as lts
-use Rattle.search.proofs.rows.offer_verification.Reads as offer-verification-reads
 
 abbrev Inv-loop : tie.InvT-loop
 Inv-loop time₀ before₀ t u disk memory top q v₀ time before v = (u < v) × (v ≤ top + 1) × Offered time₀ before₀ u v (arrivalAt t disk memory u q) time before
@@ -19,47 +16,36 @@ Inv-loop time₀ before₀ t u disk memory top q v₀ time before v = (u < v) ×
 abbrev μ-loop : tie.MeasureT-loop
 μ-loop time₀ before₀ t u disk memory top q v₀ time before v = (top + 1) - v
 
--- src/rows.rt:67:13
 mul-q : tie.Need-mul-q Inv-loop μ-loop
 mul-q c = omega arith
 
--- src/rows.rt:67:13
 slice-read-q : tie.Need-slice-read-q Inv-loop μ-loop
 slice-read-q c = omega arith
 
--- src/rows.rt:68:17
 add-v : tie.Need-add-v Inv-loop μ-loop
 add-v c = omega arith
 
--- src/rows.rt:69:5
 loop-holds : tie.Need-loop-holds Inv-loop μ-loop
 loop-holds c = (omega arith, omega arith, offered-none _ _ _ _)
 
--- src/rows.rt:70:9
 offer-verification-requires : tie.Need-offer-verification-requires Inv-loop μ-loop
 offer-verification-requires c κs = ((omega (arith, c .before .before .before .loop .inv .2 .times-long, c .before .before .before .before .before .before .before .before .pre .0 .0), omega (arith, c .before .before .before .loop .inv .2 .backs-long, c .before .before .before .before .before .before .before .before .pre .0 .1), rw (c .before .before .before .loop .inv .2 .time-late (c .before .before .before .loop .v) (omega arith)) (c .before .before .before .before .before .before .before .before .pre .1 .1 .1 (c .before .before .before .loop .v) (omega arith))), ((c .before .before .before .loop .inv .0, omega arith, usable-less _ _ _ (omega arith) (c .before .before .before .before .before .before .before .before .pre .0 .2)), (c .before .before .before .before .before .before .before .before .pre .1 .1 .0, c .before .before .before .before .before .before .before .before .pre .1 .0 .2, c .before .before .before .before .before .before .before .before .pre .1 .0 .3)))
 
--- src/rows.rt:71:9
 add-v-2 : tie.Need-add-v-2 Inv-loop μ-loop
 add-v-2 c = omega arith
 
--- src/rows.rt:69:5
 loop-less : tie.Need-loop-less Inv-loop μ-loop
 loop-less c = omega arith
 
--- src/rows.rt:69:5
 loop-again : tie.Need-loop-again Inv-loop μ-loop
 loop-again c = (omega arith, omega arith, rw (c .before .before .before .before .offer-verification .ensures .0, c .before .before .before .before .offer-verification .ensures .1) (offered-more _ _ _ _ _ _ _ (c .before .before .before .before .before .before .before .before .loop .inv .2) (c .before .before .before .before .before .before .before .before .loop .inv .0) (omega (arith, c .before .before .before .before .before .before .before .before .before .before .before .before .before .pre .0 .0)) (omega (arith, c .before .before .before .before .before .before .before .before .before .before .before .before .before .pre .0 .1))))
 
--- src/rows.rt:61:1
 same-length : tie.Need-same-length Inv-loop μ-loop
 same-length c = c .before .loop .inv .2 .times-long
 
--- src/rows.rt:61:1
 same-length-2 : tie.Need-same-length-2 Inv-loop μ-loop
 same-length-2 c = c .before .loop .inv .2 .backs-long
 
--- src/rows.rt:61:1
 returns : tie.Need-returns Inv-loop μ-loop
 returns c = let e : c .before .loop .v ≡ c .before .before .before .before .before .before .args .top + 1 = omega arith in rw e at (c .before .loop .inv .2)
 

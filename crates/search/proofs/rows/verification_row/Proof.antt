@@ -10,9 +10,6 @@ use Rattle.search.specs.Table.{arrivalAt}
 use Rattle.search.proofs.Turns.{Turn, turn-first, turn-cap, turn-none, turn-offers, turn-last}
 use Rattle.search.proofs.rows.verification_row.Statement.{statement}
 use Rattle.search.proofs.rows.verification_row.Tie as tie
-use Rattle.search.proofs.rows.verification_row.Reads as reads
-use Rattle.search.proofs.rows.verification_row.Lts as lts
-use Rattle.search.proofs.rows.offer_verifications.Reads as offer-verifications-reads
 
 abbrev Inv-loop : tie.InvT-loop
 Inv-loop time₀ before₀ t m disk memory top u₀ time before u = (m ≤ u) × (u ≤ top) × Turn none m (arrivalAt t disk memory) top u time before
@@ -20,51 +17,39 @@ Inv-loop time₀ before₀ t m disk memory top u₀ time before u = (m ≤ u) ×
 abbrev μ-loop : tie.MeasureT-loop
 μ-loop time₀ before₀ t m disk memory top u₀ time before u = top - u
 
--- src/rows.rt:81:5
 mul-time : tie.Need-mul-time Inv-loop μ-loop
 mul-time c = omega arith
 
--- src/rows.rt:81:5
 slice-write-time : tie.Need-slice-write-time Inv-loop μ-loop
 slice-write-time c = rw (c .before .before .before .pre .0 .0, length-replicate) (omega arith)
 
--- src/rows.rt:83:5
 loop-holds : tie.Need-loop-holds Inv-loop μ-loop
 loop-holds c = (omega arith, omega arith, turn-first _ _ _ _ (c .before .before .before .pre .1 .0) (c .before .before .before .pre .1 .1) _ _ (c .before .before .before .pre .0 .0) (c .before .before .before .pre .0 .1))
 
--- src/rows.rt:84:12
 mul-if1 : tie.Need-mul-if1 Inv-loop μ-loop
 mul-if1 c = omega arith
 
--- src/rows.rt:84:12
 slice-read-if1 : tie.Need-slice-read-if1 Inv-loop μ-loop
 slice-read-if1 c = omega (arith, c .before .before .loop .inv .2 .times-long, c .before .before .before .before .before .before .pre .1 .1)
 
--- src/rows.rt:85:13
 offer-verifications-requires : tie.Need-offer-verifications-requires Inv-loop μ-loop
 offer-verifications-requires c κs = ((c .before .before .before .before .before .loop .inv .2 .times-long, c .before .before .before .before .before .loop .inv .2 .backs-long, c .before .before .before .before .before .before .before .before .before .pre .0 .2), ((c .before .before .before .before .before .loop .inv .1, c .before .before .before .before .before .before .before .before .before .pre .1 .1, c .before .before .before .before .before .before .before .before .before .pre .1 .2, c .before .before .before .before .before .before .before .before .before .pre .1 .3), (c .before .before .if1 .taken, turn-cap _ _ _ _ _ _ _ (c .before .before .before .before .before .loop .inv .2))))
 
--- src/rows.rt:87:9
 add-u : tie.Need-add-u Inv-loop μ-loop
 add-u c = omega (arith, c .before .before .before .before .before .before .before .pre .1 .1)
 
--- src/rows.rt:83:5
 loop-less : tie.Need-loop-less Inv-loop μ-loop
 loop-less c = omega arith
 
--- src/rows.rt:83:5
 loop-again : tie.Need-loop-again Inv-loop μ-loop
 loop-again c = ⊎-elim (λ w. (omega arith, omega arith, rw (w .8, w .9) (turn-offers _ _ _ _ _ _ _ (c .before .before .before .loop .inv .2) (c .before .before .before .loop .inv .0) (c .before .before .before .loop .inv .1) (w .0 .taken) _ _ _ (λ v a b. refl) (w .3 .ensures)))) (λ w. (omega arith, omega arith, rw (w .1, w .2) (turn-none _ _ _ _ _ _ _ (c .before .before .before .loop .inv .2) (c .before .before .before .loop .inv .0) (c .before .before .before .loop .inv .1) (w .0 .left)))) (c .if1 .came)
 
--- src/rows.rt:76:1
 same-length : tie.Need-same-length Inv-loop μ-loop
 same-length c = c .before .loop .inv .2 .times-long ∙ rw (c .before .before .before .before .before .pre .0 .0) (sym (length-replicate positions none))
 
--- src/rows.rt:76:1
 same-length-2 : tie.Need-same-length-2 Inv-loop μ-loop
 same-length-2 c = c .before .loop .inv .2 .backs-long ∙ rw (c .before .before .before .before .before .pre .0 .1) (sym (length-replicate {A = ℕ} positions 0))
 
--- src/rows.rt:76:1
 returns : tie.Need-returns Inv-loop μ-loop
 returns c = turn-last _ _ _ _ _ _ _ (c .before .loop .inv .2) (omega arith)
 

@@ -3,54 +3,40 @@ use Rattle.search.specs.Table.{entryOf}
 use borrow.Author.Needs.{needs}
 use Rattle.search.proofs.table.entry.Statement.{statement}
 use Rattle.search.proofs.table.entry.Tie as tie
-use Rattle.search.proofs.table.entry.Reads as reads
-use Rattle.search.proofs.table.entry.Lts as lts
 
--- src/table.rt:70:19
 mul-at : tie.Need-mul-at
 mul-at c = search needs
 
--- src/table.rt:70:19
 add-at : tie.Need-add-at
 add-at c = search needs
 
--- src/table.rt:70:14
 mul-at-2 : tie.Need-mul-at-2
 mul-at-2 c = search needs
 
--- src/table.rt:72:15
 mul-t5 : tie.Need-mul-t5
 mul-t5 c = search needs
 
--- src/table.rt:72:15
 shared-slice-read-t8 : tie.Need-shared-slice-read-t8
 shared-slice-read-t8 c = search needs
 
--- src/table.rt:73:19
 add-t6 : tie.Need-add-t6
 add-t6 c = search needs
 
--- src/table.rt:73:17
 mul-t9 : tie.Need-mul-t9
 mul-t9 c = search needs
 
--- src/table.rt:73:17
 shared-slice-read-t11 : tie.Need-shared-slice-read-t11
 shared-slice-read-t11 c = search needs
 
--- src/table.rt:74:18
 add-t12 : tie.Need-add-t12
 add-t12 c = search needs
 
--- src/table.rt:74:16
 mul-t13 : tie.Need-mul-t13
 mul-t13 c = search needs
 
--- src/table.rt:74:16
 shared-slice-read-t15 : tie.Need-shared-slice-read-t15
 shared-slice-read-t15 c = search needs
 
--- src/table.rt:66:1
 returns : tie.Need-returns
 unfolding entryOf
 returns c = refl

@@ -8,10 +8,6 @@ use Rattle.search.specs.Table.{Tabled, difference}
 use Rattle.search.proofs.Entries.{tabled-none, tabled-weights, totals-between, totals-growing}
 use Rattle.search.proofs.table.fill.Statement.{statement}
 use Rattle.search.proofs.table.fill.Tie as tie
-use Rattle.search.proofs.table.fill.Reads as reads
-use Rattle.search.proofs.table.fill.Lts as lts
-use Rattle.search.proofs.table.fill_pair.Reads as fill-pair-reads
-use Rattle.search.proofs.table.totals.Reads as totals-reads
 
 abbrev Inv-loop : tie.InvT-loop
 Inv-loop t₀ n platform sums p₀ t p = (p ≤ positions * positions) × Tabled platform n (difference sums) p t
@@ -19,39 +15,30 @@ Inv-loop t₀ n platform sums p₀ t p = (p ≤ positions * positions) × Tabled
 abbrev μ-loop : tie.MeasureT-loop
 μ-loop t₀ n platform sums p₀ t p = (positions * positions) - p
 
--- src/table.rt:69:9
 totals-requires : tie.Need-totals-requires Inv-loop μ-loop
 totals-requires c κs = c .before .before .pre .1
 
--- src/table.rt:71:5
 loop-holds : tie.Need-loop-holds Inv-loop μ-loop
 loop-holds c = (search needs, tabled-none _ _ _ _ (c .before .before .before .pre .0))
 
--- src/table.rt:71:15
 mul-loop : tie.Need-mul-loop Inv-loop μ-loop
 mul-loop c = search needs
 
--- src/table.rt:72:9
 fill-pair-requires : tie.Need-fill-pair-requires Inv-loop μ-loop
 fill-pair-requires c κs = ((omega arith, omega (arith, c .before .before .before .before .before .before .pre .1 .few-tasks), c .before .before .before .before .before .before .pre .1 .v), (totals-growing _ (c .before .before .before .before .before .before .pre .1) _ (c .before .before .before .totals .ensures), c .before .before .loop .inv .1))
 
--- src/table.rt:73:9
 add-p : tie.Need-add-p Inv-loop μ-loop
 add-p c = omega arith
 
--- src/table.rt:71:5
 loop-less : tie.Need-loop-less Inv-loop μ-loop
 loop-less c = omega arith
 
--- src/table.rt:71:5
 loop-again : tie.Need-loop-again Inv-loop μ-loop
 loop-again c = (omega arith, c .before .before .fill-pair .ensures)
 
--- src/table.rt:63:1
 same-length : tie.Need-same-length Inv-loop μ-loop
 same-length c = c .before .loop .inv .1 .long ∙ sym (c .before .before .before .before .before .pre .0)
 
--- src/table.rt:63:1
 returns : tie.Need-returns Inv-loop μ-loop
 returns c = let e : c .before .loop .p ≡ positions * positions = omega arith in tabled-weights _ _ _ _ _ _ (λ u v a b. totals-between _ _ _ (c .before .before .totals .ensures) u v a b) (rw e at (c .before .loop .inv .1))
 

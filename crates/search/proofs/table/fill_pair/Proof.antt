@@ -5,56 +5,40 @@ use Rattle.search.proofs.Entries.{tabled-skip, tabled-more}
 use borrow.Author.Needs.{needs}
 use Rattle.search.proofs.table.fill_pair.Statement.{statement}
 use Rattle.search.proofs.table.fill_pair.Tie as tie
-use Rattle.search.proofs.table.fill_pair.Reads as reads
-use Rattle.search.proofs.table.fill_pair.Lts as lts
-use Rattle.pricing.proofs.stretch_factors.Reads as stretch-factors-reads
-use Rattle.search.proofs.table.put_entry.Reads as put-entry-reads
 
--- src/table.rt:53:9
 returns : tie.Need-returns
 returns c = tabled-skip _ _ (c .before .before .pre .0 .1) _ _ _ (c .before .before .pre .1 .1) (λ a b. omega arith)
 
--- src/table.rt:56:9
 returns-2 : tie.Need-returns-2
 returns-2 c = tabled-skip _ _ (c .before .before .before .pre .0 .1) _ _ _ (c .before .before .before .pre .1 .1) (λ a b. omega arith)
 
--- src/table.rt:58:48
 mul-stretch-factors : tie.Need-mul-stretch-factors
 mul-stretch-factors c = search needs
 
--- src/table.rt:58:48
 array-read-stretch-factors : tie.Need-array-read-stretch-factors
 array-read-stretch-factors c = search needs
 
--- src/table.rt:58:58
 mul-stretch-factors-2 : tie.Need-mul-stretch-factors-2
 mul-stretch-factors-2 c = search needs
 
--- src/table.rt:58:58
 array-read-stretch-factors-2 : tie.Need-array-read-stretch-factors-2
 array-read-stretch-factors-2 c = search needs
 
--- src/table.rt:58:48
 sub-stretch-factors : tie.Need-sub-stretch-factors
 sub-stretch-factors c = c .before .before .before .pre .1 .0 .grows _ _ (omega arith) (omega arith)
 
--- src/table.rt:58:9
 stretch-factors-requires : tie.Need-stretch-factors-requires
 stretch-factors-requires c κs = (omega (arith, c .before .before .before .pre .1 .0 .capped (c .before .before .before .args .p % 65) (omega arith)), c .before .before .before .pre .0 .2)
 
--- src/table.rt:59:18
 mul-put-entry : tie.Need-mul-put-entry
 mul-put-entry c = search needs
 
--- src/table.rt:59:5
 put-entry-requires : tie.Need-put-entry-requires
 put-entry-requires c κs = search needs
 
--- src/table.rt:44:1
 same-length : tie.Need-same-length
 same-length c = search needs
 
--- src/table.rt:44:1
 returns-3 : tie.Need-returns-3
 returns-3 c = rw (c .before .before .put-entry .ensures) (tabled-more _ _ (c .before .before .before .before .before .before .before .before .pre .0 .1) _ _ _ (c .before .before .before .before .before .before .before .before .pre .1 .1) _ (c .before .before .before .before .stretch-factors .ensures) (c .before .before .before .before .before .before .before .before .pre .0 .0))
 

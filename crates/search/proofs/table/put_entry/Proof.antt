@@ -3,46 +3,34 @@ use native.Mathlib.Omega.{arith}
 use borrow.Author.Needs.{needs}
 use Rattle.search.proofs.table.put_entry.Statement.{statement}
 use Rattle.search.proofs.table.put_entry.Tie as tie
-use Rattle.search.proofs.table.put_entry.Reads as reads
-use Rattle.search.proofs.table.put_entry.Lts as lts
 
--- src/table.rt:38:5
 mul-t : tie.Need-mul-t
 mul-t c = search needs
 
--- src/table.rt:38:5
 slice-write-t : tie.Need-slice-write-t
 slice-write-t c = search needs
 
--- src/table.rt:39:7
 add-t : tie.Need-add-t
 add-t c = search needs
 
--- src/table.rt:39:5
 mul-t-2 : tie.Need-mul-t-2
 mul-t-2 c = search needs
 
--- src/table.rt:39:5
 slice-write-t-2 : tie.Need-slice-write-t-2
 slice-write-t-2 c = simp length-set (omega arith)
 
--- src/table.rt:40:7
 add-t-2 : tie.Need-add-t-2
 add-t-2 c = search needs
 
--- src/table.rt:40:5
 mul-t-3 : tie.Need-mul-t-3
 mul-t-3 c = search needs
 
--- src/table.rt:40:5
 slice-write-t-3 : tie.Need-slice-write-t-3
 slice-write-t-3 c = search needs
 
--- src/table.rt:34:1
 same-length : tie.Need-same-length
 same-length c = search needs
 
--- src/table.rt:34:1
 returns : tie.Need-returns
 returns c = search needs
 

@@ -9,8 +9,6 @@ use Rattle.search.specs.Table.{Totals}
 use Rattle.search.proofs.Entries.{totals-more, totals-range}
 use Rattle.search.proofs.table.totals.Statement.{statement}
 use Rattle.search.proofs.table.totals.Tie as tie
-use Rattle.search.proofs.table.totals.Reads as reads
-use Rattle.search.proofs.table.totals.Lts as lts
 
 abbrev Inv-loop : tie.InvT-loop
 Inv-loop n weights sums₀ j₀ sums j = (j ≤ n) × Totals weights j sums
@@ -18,60 +16,46 @@ Inv-loop n weights sums₀ j₀ sums j = (j ≤ n) × Totals weights j sums
 abbrev μ-loop : tie.MeasureT-loop
 μ-loop n weights sums₀ j₀ sums j = n - j
 
--- src/table.rt:27:5
 loop-holds : tie.Need-loop-holds Inv-loop μ-loop
 unfolding total
 loop-holds c = (search needs, record { long = refl; sums-at = λ v h. let e : v ≡ 0 = omega arith in rw e })
 
--- src/table.rt:28:23
 mul-sums : tie.Need-mul-sums Inv-loop μ-loop
 mul-sums c = omega (arith, c .before .before .before .pre .few-tasks)
 
--- src/table.rt:28:23
 array-read-sums : tie.Need-array-read-sums Inv-loop μ-loop
 array-read-sums c = omega (arith, c .before .before .before .pre .few-tasks)
 
--- src/table.rt:28:34
 mul-sums-2 : tie.Need-mul-sums-2 Inv-loop μ-loop
 mul-sums-2 c = omega (arith, c .before .before .before .pre .few-tasks)
 
--- src/table.rt:28:34
 array-read-sums-2 : tie.Need-array-read-sums-2 Inv-loop μ-loop
 array-read-sums-2 c = omega (arith, c .before .before .before .pre .few-tasks)
 
--- src/table.rt:28:34
 cast-sums : tie.Need-cast-sums Inv-loop μ-loop
 cast-sums c = search needs
 
--- src/table.rt:28:23
 add-sums : tie.Need-add-sums Inv-loop μ-loop
 add-sums c = omega (arith, c .before .loop .inv .1 .sums-at (c .before .loop .j) (omega arith), total-more (c .before .before .before .args .job .weights) (c .before .loop .j), totals-range (c .before .before .before .args .job) (c .before .before .before .pre) (c .before .loop .j + 1) (omega arith))
 
--- src/table.rt:28:14
 add-sums-2 : tie.Need-add-sums-2 Inv-loop μ-loop
 add-sums-2 c = omega (arith, c .before .before .before .pre .few-tasks)
 
--- src/table.rt:28:9
 mul-sums-3 : tie.Need-mul-sums-3 Inv-loop μ-loop
 mul-sums-3 c = omega (arith, c .before .before .before .pre .few-tasks)
 
--- src/table.rt:28:9
 array-write-sums : tie.Need-array-write-sums Inv-loop μ-loop
 array-write-sums c = omega (arith, c .before .before .before .pre .few-tasks)
 
--- src/table.rt:29:9
 add-j : tie.Need-add-j Inv-loop μ-loop
 add-j c = omega (arith, c .before .before .before .pre .few-tasks)
 
--- src/table.rt:27:5
 loop-less : tie.Need-loop-less Inv-loop μ-loop
 loop-less c = omega arith
 
--- src/table.rt:27:5
 loop-again : tie.Need-loop-again Inv-loop μ-loop
 loop-again c = (omega arith, totals-more _ _ _ (c .before .loop .inv .1) (omega (arith, c .before .before .before .pre .few-tasks)))
 
--- src/table.rt:19:1
 returns : tie.Need-returns Inv-loop μ-loop
 returns c = let e : c .before .loop .j ≡ c .before .before .before .args .job .tasks = omega arith in rw e at (c .before .loop .inv .1)
 
