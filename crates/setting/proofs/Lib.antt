@@ -6,4 +6,5 @@ pub mod Walk
 pub mod Attained
 pub mod Order
 pub mod Ties
+pub mod Agree
 pub mod Theorems

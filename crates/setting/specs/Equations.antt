@@ -21,7 +21,7 @@ pub last-past : (k : ℕ) (f : Marks) (v : ℕ) → f v < k → last k f (suc v)
 unfolding last
 last-past k f v h = rw (lt-leb _ _ h)
 
-last-le : (k : ℕ) (f : Marks) (v : ℕ) → last k f v ≤ v
+pub last-le : (k : ℕ) (f : Marks) (v : ℕ) → last k f v ≤ v
 unfolding last
 last-le k f zero = omega arith
 last-le k f (suc v) = go (decLe k (f v)) (last-le k f v)

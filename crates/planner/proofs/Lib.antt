@@ -1,0 +1,3 @@
+-- The laws of the plan's promise.
+pub mod Buffers
+pub mod Promises
