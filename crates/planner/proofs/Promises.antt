@@ -3,7 +3,8 @@
 use Prim.Native.Nat.{ℕ, suc, _-_, _≤_, _<_}
 use mathlib.Core.Path.{_≡_, refl, sym, _∙_, ap}
 use mathlib.Core.List.{List, _++_}
-use native.Mathlib.Decide.{decLe}
+use mathlib.Core.Logic.{_⊎_, inl, inr}
+use native.Mathlib.Nat.{eq-zero-or-pos}
 use native.Mathlib.Omega.{arith}
 use lib.ListN.{length, getD, take, drop}
 use lib.Seq.{getD-take, ext-getD, length-take-le}
@@ -12,8 +13,10 @@ use Rattle.setting.specs.Plan.{Setting, IsPlan}
 use Rattle.setting.specs.Search.{toDisk, leastD, planMarks}
 use Rattle.setting.proofs.Agree.{plan-agree}
 use Rattle.setting.proofs.Theorems.{plan-is-least, too-slow-exactly}
-use Rattle.sheet.specs.Job.{Sound}
-use Rattle.sheet.specs.Sheet.{jobOf, sheetRefusal}
+use Rattle.sheet.specs.Job.{taskLimit, Sound}
+use Rattle.sheet.specs.Sheet.{tasks, jobOf, sheetRefusal}
+use Rattle.sheet.proofs.Sections.{layout-tasks}
+use Rattle.sheet.proofs.Readings.{sheet-layout}
 use Rattle.sheet.specs.declared.Job.{Job}
 use Rattle.marks.specs.Marks.{marksOf}
 use Rattle.pricing.specs.Chain.{chainOf}
@@ -101,3 +104,11 @@ row-least job time backs f = f .times (job .tasks) (omega arith)
 
 pub row-backs : (job : Job) (time backs : List ℕ) → Filled none 0 (toDisk (chainOf job) none) (job .tasks) time backs → DiskBacks job backs
 row-backs job time backs f = record { long = f .backs-long; backs = f .backs }
+
+-- a result is given only to a sheet that passes checks 1 to 8, so its task count is in range
+pub plan-tasks : (s before after : List ℕ) (r : Answer) → Plans s before after r → r .number ≡ 0 → tasks s ≤ taskLimit
+plan-tasks s before after r p e = go (eq-zero-or-pos (sheetRefusal s))
+  where
+    go : (sheetRefusal s ≡ 0) ⊎ (0 < sheetRefusal s) → tasks s ≤ taskLimit
+    go (inl z) = layout-tasks s (sheet-layout s z) .1
+    go (inr h) = absurd (omega (arith, p .bad-sheet h .numbered))

@@ -1,0 +1,2 @@
+-- Laws of marks as text.
+mod Texts

@@ -1,0 +1,30 @@
+-- Marks as text: one digit a task.
+use Prim.Native.Nat.{ℕ, _+_, _-_, _%_, _≤_, _<_}
+use mathlib.Core.Path.{_≡_}
+use mathlib.Core.Bool.{Bool, true, not, _||_}
+use mathlib.Core.List.{List}
+use lib.Dec.{ltb}
+use lib.ListN.{length, getD}
+use Rattle.sheet.specs.Job.{some}
+
+-- the text codes of 0 and 9
+abbrev pub zero-code : ℕ
+zero-code = 48
+
+abbrev pub nine-code : ℕ
+nine-code = 57
+
+-- the byte is no digit
+unfoldable pub noDigit : List ℕ → ℕ → Bool
+noDigit text j = ltb (getD text j 0) zero-code || ltb nine-code (getD text j 0)
+
+-- the text of marks: the digit of each
+pub record TextOf (l text : List ℕ) : Type 0 where
+  pub long : length text ≡ 64
+  pub digit : (j : ℕ) → j < 64 → getD text j 0 ≡ zero-code + getD l j 0 % 10
+
+-- the marks of a text of digits, in the first bytes of a buffer
+pub record MarksOf (text before after : List ℕ) (ok : Bool) : Type 0 where
+  pub long : length after ≡ length before
+  pub digits : ok ≡ not (some (length text) (noDigit text))
+  pub marks : ok ≡ true → (j : ℕ) → j < length text → getD after j 0 ≡ getD text j 0 - zero-code

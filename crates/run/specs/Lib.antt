@@ -1,0 +1,6 @@
+pub mod Run
+pub mod Sound
+pub mod Start
+pub mod Log
+pub mod History
+pub mod Examples
