@@ -17,6 +17,7 @@ pub const NONE: u64 = 1 << 34;
 const TOO_SLOW: u64 = 13;
 
 // The answer to a call: number 0 and the time, or the number of its refusal and time 0.
+#[repr(C)]
 pub struct Answer {
     pub number: u64,
     pub time: u64,

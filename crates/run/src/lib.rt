@@ -27,6 +27,7 @@ use sheet::read::job_of;
 use sheet::read::sheet_refusal;
 
 // The five sums, in ticks.
+#[repr(C)]
 pub struct Sums {
     pub kept: u64,
     pub redone: u64,
@@ -36,6 +37,7 @@ pub struct Sums {
 }
 
 // Where a run stands, whether a verification is awaited there, and its sums.
+#[repr(C)]
 pub struct Place {
     pub position: usize,
     pub awaiting: bool,
@@ -43,6 +45,7 @@ pub struct Place {
 }
 
 // The state of a run. Entries of weights and marks past the last task are carried along unread.
+#[repr(C)]
 pub struct Run {
     pub job: Job,
     pub marks: [u8; 64],
@@ -58,12 +61,14 @@ pub enum Event {
 }
 
 // The answer to an event or a log: 0 and the next state, or the refusal and the state given.
+#[repr(C)]
 pub struct Stepped {
     pub number: u64,
     pub run: Run,
 }
 
 // The answer to a start: 0 and the fresh run, or the refusal and the state whose every field is 0.
+#[repr(C)]
 pub struct Started {
     pub number: u64,
     pub run: Run,

@@ -192,7 +192,8 @@ fn section_end(s: &[u8], k: u64) -> usize
     offset_of(s, i) + size_of(s, i)
 }
 
-fn lookup_start(s: &[u8], k: u64) -> usize
+// Where the stretch of a lookup starts.
+pub fn lookup_start(s: &[u8], k: u64) -> usize
     ensures { λ r. ⌜ r ≡ lookupStart (now (s .entry)) k ⌝ }
 {
     if lookup_refusal(s, k) != 0 {
@@ -201,7 +202,8 @@ fn lookup_start(s: &[u8], k: u64) -> usize
     section_start(s, k)
 }
 
-fn lookup_end(s: &[u8], k: u64) -> usize
+// Where the stretch of a lookup ends.
+pub fn lookup_end(s: &[u8], k: u64) -> usize
     ensures { λ r. ⌜ r ≡ lookupStart (now (s .entry)) k + lookupSize (now (s .entry)) k ⌝ }
 {
     if lookup_refusal(s, k) != 0 {

@@ -5,6 +5,7 @@ pub mod read;
 pub mod values;
 
 // The platform section: the two rates, and the costs C_D, C_M, V, R_D and R_M.
+#[repr(C)]
 pub struct Platform {
     pub failstop: u32,
     pub silent: u32,
@@ -28,6 +29,7 @@ pub enum Reading {
 }
 
 // The values of a sheet; weights past the last task are 0.
+#[repr(C)]
 pub struct Job {
     pub tasks: usize,
     pub platform: Platform,
