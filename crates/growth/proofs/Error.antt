@@ -6,7 +6,8 @@ use Prim.Native.Nat.{ℕ, zero, suc, _+_, _*_, _^_, _≤_, _<_}
 use native.Mathlib.Nat.{le-trans, pow-zero, pow-suc, mul-pos, mul-le-mul-left, mul-le-mul-right}
 use native.Mathlib.Omega.{arith}
 use lib.Dec.{lit<}
-use Rattle.growth.specs.Growth.{unit, exponentLimit, lastTerm, ceilDiv, term, termSum, growthSum, Fraction, addFraction, risingFactorial, seriesTerm, seriesSum, exactSum, WithinBound}
+use Rattle.units.specs.Unit.{unit, exponentLimit}
+use Rattle.growth.specs.Growth.{lastTerm, ceilDiv, term, termSum, growthSum, Fraction, addFraction, risingFactorial, seriesTerm, seriesSum, exactSum, WithinBound}
 use Rattle.growth.proofs.Terms.{ceil-ge, ceil-lt, ceil-le}
 
 -- v units are at least the fraction, and at most e tenths of a unit above it

@@ -7,7 +7,8 @@ use native.Mathlib.Nat.{le-refl, le-trans, le-add-right, lt-of-not-le}
 use native.Mathlib.Decide.{decLe}
 use native.Mathlib.Omega.{arith}
 use lib.Dec.{lit≤}
-use Rattle.growth.specs.Growth.{exponentLimit, ceilDiv, term, termSum, growthSum, growth, G, H, exactSum, WithinBound}
+use Rattle.units.specs.Unit.{exponentLimit}
+use Rattle.growth.specs.Growth.{ceilDiv, term, termSum, growthSum, growth, G, H, exactSum, WithinBound}
 use Rattle.growth.proofs.Error.{growthSum-bound}
 use Rattle.growth.proofs.Terms.{growthSum-mono, growthSum-unit, growth-within, growth-above}
 

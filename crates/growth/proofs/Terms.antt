@@ -7,7 +7,8 @@ use native.Mathlib.Nat.{le-refl, le-trans, zero-add, suc-add, add-le-add, mul-le
 use native.Mathlib.Omega.{arith}
 use borrow.Author.Tests.{le-leb, lt-leb}
 use lib.Dec.{lit≤}
-use Rattle.growth.specs.Growth.{unit, exponentLimit, lastTerm, ceilDiv, term, termSum, growthSum, growth}
+use Rattle.units.specs.Unit.{unit, exponentLimit}
+use Rattle.growth.specs.Growth.{lastTerm, ceilDiv, term, termSum, growthSum, growth}
 
 pub ceil-ge : (n d : ℕ) → 0 < d → n ≤ ceilDiv n d * d
 unfolding ceilDiv

@@ -3,14 +3,7 @@
 use mathlib.Core.Bool.{cond}
 use Prim.Native.Nat.{ℕ, zero, suc, _+_, _-_, _*_, _/_, _^_, _≤_, _<_}
 use lib.Dec.{leb}
-
--- "Unit: 2^-24": the number 1 is 2^24 units
-abbrev pub unit : ℕ
-unit = 2 ^ 24
-
--- "For 0 <= y <= 2^26"
-abbrev pub exponentLimit : ℕ
-exponentLimit = 2 ^ 26
+use Rattle.units.specs.Unit.{unit, exponentLimit}
 
 -- the sums end at t_32 and u_32
 abbrev pub lastTerm : ℕ
@@ -73,7 +66,11 @@ seriesSum shift y (suc k) = addFraction (seriesSum shift y k) (seriesTerm shift 
 unfoldable pub exactSum : ℕ → ℕ → Fraction
 exactSum shift y = seriesSum shift y lastTerm
 
+-- how far a sum may lie above the exact one, in units
+abbrev pub boundUnits : ℕ
+boundUnits = 64
+
 -- "at least 2^24 times the exact sum .., and less than 64 above it", both sides times the denominator
 pub record WithinBound (sum : ℕ) (exact : Fraction) : Type 0 where
   pub at-least : unit * exact .num ≤ sum * exact .den
-  pub below : sum * exact .den < unit * exact .num + 64 * exact .den
+  pub below : sum * exact .den < unit * exact .num + boundUnits * exact .den

@@ -2,10 +2,8 @@
 ghost use mathlib.Core.Path.{_≡_};
 ghost use Prim.Native.Nat.{_+_, _<_, _≤_, _^_};
 ghost use Rattle.growth.specs.Growth;
-
-const UNIT: u64 = 1 << 24;
-
-const EXPONENT_LIMIT: u64 = 1 << 26;
+use units::EXPONENT_LIMIT;
+use units::UNIT;
 
 const LAST_TERM: u64 = 32;
 

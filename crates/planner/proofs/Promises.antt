@@ -20,8 +20,7 @@ use Rattle.sheet.proofs.Readings.{sheet-layout}
 use Rattle.sheet.specs.declared.Job.{Job}
 use Rattle.marks.specs.Marks.{marksOf}
 use Rattle.pricing.specs.Chain.{chainOf}
-use Rattle.pricing.specs.Price.{timeLimit}
-use Rattle.pricing.specs.Carry.{none}
+use Rattle.pricing.specs.Price.{timeLimit, none}
 use Rattle.pricing.specs.declared.Answer.{Answer}
 use Rattle.search.specs.Rows.{Filled}
 use Rattle.search.specs.Walk.{DiskBacks, PlannedMarks}

@@ -22,8 +22,8 @@ use Rattle.marks.specs.Recovery.{fromDisk, fromMemory}
 use Rattle.marks.specs.Marks.{highestMark, marksOf, between, stretchAllowed, badStretch, badStretches}
 use Rattle.marks.proofs.Stretches.{mark-at, between-range, running, running-start, running-add, running-marked, running-plain, stretch-marked}
 use Rattle.pricing.specs.Chain.{chainOf}
-use Rattle.pricing.specs.Price.{timeOf}
-use Rattle.pricing.specs.Carry.{none, factorsOf, stretchOf, arrivalOf, carriedPast, weighed}
+use Rattle.pricing.specs.Price.{timeOf, none}
+use Rattle.pricing.specs.Carry.{factorsOf, stretchOf, arrivalOf, carriedPast, weighed}
 use Rattle.pricing.specs.declared.Carried.{Carried}
 
 pub record Carries (job : Job) (l : List ℕ) (j : ℕ) (s : Carried) : Type 0 where

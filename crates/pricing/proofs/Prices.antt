@@ -13,8 +13,7 @@ use Rattle.sheet.proofs.Refusals.{first-stands, first-goes-on}
 use Rattle.sheet.proofs.Readings.{sheet-numbered}
 use Rattle.marks.specs.Marks.{marksConditions}
 use Rattle.marks.proofs.Stretches.{marks-numbered}
-use Rattle.pricing.specs.Price.{timeLimit, timeOf, tooSlow, priceRefusal, priceConditions, answered, priceOf}
-use Rattle.pricing.specs.Carry.{none}
+use Rattle.pricing.specs.Price.{timeLimit, timeOf, tooSlow, priceRefusal, priceConditions, answered, priceOf, none}
 use Rattle.pricing.specs.declared.Answer.{Answer}
 
 -- a refused call has time 0

@@ -11,7 +11,8 @@ use Rattle.growth.proofs.Laws.{G-cap, H-cap, G-unit, G-sum}
 use Rattle.sheet.specs.Job.{costLimit, exponent, isAllowed}
 use Rattle.sheet.specs.declared.Platform.{Platform}
 use Rattle.pricing.specs.Chain.{silentExponent, stopExponent, silentGrowth, errorGrowth, workTime}
-use Rattle.pricing.specs.Carry.{none, factorsOf}
+use Rattle.pricing.specs.Carry.{factorsOf}
+use Rattle.pricing.specs.Price.{none}
 use Rattle.pricing.specs.Bounds.{Factored}
 use Rattle.pricing.specs.declared.Factors.{Factors}
 

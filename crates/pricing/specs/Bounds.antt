@@ -1,9 +1,9 @@
--- What the arithmetic of pricing asks of its numbers, so that no product or sum passes 64 bits.
+-- How far the numbers of pricing may go: what its arithmetic asks of them, so that no product or sum passes 64 bits.
 use Prim.Native.Nat.{ℕ, _+_, _*_, _≤_, _<_, _^_}
 use Rattle.units.specs.Unit.{unit}
 use Rattle.sheet.specs.Job.{costLimit}
 use Rattle.sheet.specs.declared.Platform.{Platform}
-use Rattle.pricing.specs.Carry.{none}
+use Rattle.pricing.specs.Price.{none}
 use Rattle.pricing.specs.declared.Carried.{Carried}
 use Rattle.pricing.specs.declared.Factors.{Factors}
 

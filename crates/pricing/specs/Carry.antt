@@ -1,4 +1,4 @@
--- The price worked out task by task: what is carried from one position to the next. `Carries` (proofs) ties it to Q, M and D.
+-- How the price is worked out, task by task: what is carried from one position to the next. `Carries` (proofs) ties it to Q, M and D.
 use Prim.Native.Nat.{ℕ, _+_, _-_, _*_, _^_}
 use lib.Dec.{leb}
 use Rattle.units.specs.Choice.{ite}
@@ -9,10 +9,6 @@ use Rattle.marks.specs.Recovery.{fromDisk, fromMemory}
 use Rattle.pricing.specs.Chain.{silentGrowth, errorGrowth, workTime}
 use Rattle.pricing.specs.declared.Carried.{Carried}
 use Rattle.pricing.specs.declared.Factors.{Factors}
-
--- 'no time', one more than the longest that is not too slow
-abbrev pub none : ℕ
-none = 2 ^ 34
 
 -- what a stretch of weight W puts into S
 unfoldable pub factorsOf : Platform → ℕ → Factors

@@ -11,9 +11,13 @@ use Rattle.marks.specs.Marks.{marksOf, marksConditions}
 use Rattle.pricing.specs.Chain.{chainOf}
 use Rattle.pricing.specs.declared.Answer.{Answer}
 
+-- 'none': the shortest time that is too slow
+abbrev pub none : ℕ
+none = 2 ^ 34
+
 -- the longest time that is not too slow
 abbrev pub timeLimit : ℕ
-timeLimit = 2 ^ 34 - 1
+timeLimit = none - 1
 
 -- the time of a setting of n marks: D(n), a whole number without limit
 unfoldable pub timeOf : Job → List ℕ → ℕ

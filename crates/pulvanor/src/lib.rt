@@ -6,9 +6,10 @@ ghost use Rattle.pricing.specs.Price.{priceOf};
 ghost use Rattle.planner.specs.Promise.{Plans};
 ghost use Rattle.run.specs.Start.{startOf};
 ghost use Rattle.run.specs.Log.{logOf};
-
 use pricing::Answer;
-use run::{Run, Started, Stepped};
+use run::Run;
+use run::Started;
+use run::Stepped;
 
 // What a lookup finds: 0 and where the stretch lies, or the number of its refusal and the empty stretch at byte 0.
 #[repr(C)]

@@ -31,3 +31,7 @@ below-digits text j h = rw (lt-ltb (getD text j 0) zero-code h)
 pub above-digits : (text : List ℕ) (j : ℕ) → nine-code < getD text j 0 → noDigit text j ≡ true
 unfolding noDigit
 above-digits text j h = rw (lt-ltb nine-code (getD text j 0) h) (or-true (ltb (getD text j 0) zero-code))
+
+-- what a store at j leaves after j
+pub kept-after : (l l₀ : List ℕ) (a j : ℕ) → ((i : ℕ) → j ≤ i → getD l i 0 ≡ getD l₀ i 0) → (i : ℕ) → j + 1 ≤ i → getD (set l j a) i 0 ≡ getD l₀ i 0
+kept-after l l₀ a j same i h = getD-set-other l j i a 0 (λ e. omega arith) ∙ same i (omega arith)

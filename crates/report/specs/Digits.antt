@@ -23,8 +23,8 @@ pub record TextOf (l text : List ℕ) : Type 0 where
   pub long : length text ≡ 64
   pub digit : (j : ℕ) → j < 64 → getD text j 0 ≡ zero-code + getD l j 0 % 10
 
--- the marks of a text of digits, in the first bytes of a buffer
-pub record MarksOf (text before after : List ℕ) (ok : Bool) : Type 0 where
-  pub long : length after ≡ length before
+-- the marks of a text of digits, in its place
+pub record MarksOf (text after : List ℕ) (ok : Bool) : Type 0 where
+  pub long : length after ≡ length text
   pub digits : ok ≡ not (some (length text) (noDigit text))
   pub marks : ok ≡ true → (j : ℕ) → j < length text → getD after j 0 ≡ getD text j 0 - zero-code

@@ -1,7 +1,5 @@
 // The words and numbers that the programs print, and marks as text.
 ghost use mathlib.Core.Path.{_≡_};
-ghost use Prim.Native.Nat.{_≤_};
-ghost use lib.ListN.{length};
 ghost use Rattle.report.specs.Digits.{TextOf, MarksOf};
 use libc::STDOUT_FILENO;
 
@@ -22,10 +20,9 @@ pub fn digits(marks: [u8; 64]) -> [u8; 64]
     text
 }
 
-// The marks that a text of digits gives, put at the front of the buffer; false where a byte is no digit.
-pub fn marks_of(text: &[u8], marks: &mut [u8]) -> bool
-    requires { ⌜ length (now text) ≤ length (now marks) ⌝ }
-    ensures { λ r. ⌜ MarksOf (now (text .entry)) (now (marks .entry)) (now (marks .exit)) r ⌝ }
+// The marks that a text of digits gives, in its place; false where a byte is no digit.
+pub fn to_marks(text: &mut [u8]) -> bool
+    ensures { λ r. ⌜ MarksOf (now (text .entry)) (now (text .exit)) r ⌝ }
 {
     let mut j: usize = 0;
     while j < text.len() {
@@ -36,7 +33,7 @@ pub fn marks_of(text: &[u8], marks: &mut [u8]) -> bool
         if NINE < c {
             return false;
         }
-        marks[j] = c - ZERO;
+        text[j] = c - ZERO;
         j += 1;
     }
     true

@@ -17,7 +17,7 @@ use Rattle.sheet.specs.Job.{Sound}
 use Rattle.sheet.specs.declared.Job.{Job}
 use Rattle.marks.specs.Recovery.{fromDisk, fromMemory}
 use Rattle.pricing.specs.Chain.{chainOf}
-use Rattle.pricing.specs.Carry.{none}
+use Rattle.pricing.specs.Price.{none}
 use Rattle.search.specs.Rows.{positions, Filled}
 use Rattle.search.specs.Table.{TableOf, arrivalAt}
 use Rattle.search.specs.Walk.{Backs, DiskBacks, Walking, Before, PlannedMarks}

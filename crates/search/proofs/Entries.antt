@@ -16,7 +16,8 @@ use Rattle.sheet.specs.declared.Platform.{Platform}
 use Rattle.sheet.proofs.Ranges.{total-more}
 use Rattle.marks.specs.Marks.{between}
 use Rattle.marks.proofs.Stretches.{total-mono}
-use Rattle.pricing.specs.Carry.{none, factorsOf, stretchOf}
+use Rattle.pricing.specs.Carry.{factorsOf, stretchOf}
+use Rattle.pricing.specs.Price.{none}
 use Rattle.pricing.specs.declared.Factors.{Factors}
 use Rattle.search.specs.Rows.{positions}
 use Rattle.search.specs.Table.{tableLength, pairAt, entryOf, Tabled, Totals, Growing, difference, arrivalAt, Usable}

@@ -21,7 +21,8 @@ use Rattle.marks.specs.Marks.{between, stretchAllowed}
 use Rattle.marks.specs.Recovery.{fromDisk, fromMemory}
 use Rattle.marks.proofs.Stretches.{between-range}
 use Rattle.pricing.specs.Chain.{chainOf, silentExponent, stopExponent, errorGrowth}
-use Rattle.pricing.specs.Carry.{none, factorsOf, stretchOf}
+use Rattle.pricing.specs.Carry.{factorsOf, stretchOf}
+use Rattle.pricing.specs.Price.{none}
 use Rattle.pricing.specs.Bounds.{Factored}
 use Rattle.pricing.specs.declared.Factors.{Factors}
 use Rattle.pricing.proofs.Products.{factors-bounded}

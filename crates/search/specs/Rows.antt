@@ -1,4 +1,4 @@
--- Rows of times and of positions before, one entry for each position, and what it means that a search has filled them.
+-- How least times are kept: rows of times and of positions before, one entry for each position, and what it means that a search has filled them.
 use Prim.Native.Nat.{ℕ, suc, _≤_, _<_}
 use mathlib.Core.Path.{_≡_}
 use mathlib.Core.Logic.{_≢_}

@@ -1,4 +1,4 @@
--- The growth sums of each pair of ends, worked out once: three entries a pair, in a flat table.
+-- How the growth sums of each pair of ends are kept, worked out once: three entries a pair, in a flat table.
 use Prim.Native.Nat.{ℕ, _+_, _-_, _*_, _≤_, _<_}
 use mathlib.Core.Path.{_≡_}
 use mathlib.Core.Logic.{_≢_}
@@ -11,7 +11,8 @@ use Rattle.sheet.specs.Job.{costLimit, total}
 use Rattle.sheet.specs.declared.Job.{Job}
 use Rattle.sheet.specs.declared.Platform.{Platform}
 use Rattle.marks.specs.Marks.{between}
-use Rattle.pricing.specs.Carry.{none, factorsOf, stretchOf}
+use Rattle.pricing.specs.Carry.{factorsOf, stretchOf}
+use Rattle.pricing.specs.Price.{none}
 use Rattle.pricing.specs.Bounds.{Factored}
 use Rattle.pricing.specs.declared.Factors.{Factors}
 use Rattle.search.specs.Rows.{positions}

@@ -1,4 +1,4 @@
--- The walk back from the last task to the start: what a place of the walk has, and what the place before it is.
+-- How the marks are found, by walking back from the last task to the start: what a place of the walk has, and what the place before it is.
 use Prim.Native.Nat.{ℕ, suc, _-_, _≤_, _<_}
 use mathlib.Core.Path.{_≡_}
 use mathlib.Core.Logic.{_≢_}
@@ -7,9 +7,10 @@ use lib.Dec.{eqb}
 use lib.ListN.{length, getD}
 use Rattle.units.specs.Choice.{ite}
 use Rattle.setting.specs.Search.{back, toVerification, toMemory, toDisk, leastM, State, planTo, planMarks}
+use Rattle.sheet.specs.Job.{taskLimit}
 use Rattle.sheet.specs.declared.Job.{Job}
 use Rattle.pricing.specs.Chain.{chainOf}
-use Rattle.pricing.specs.Carry.{none}
+use Rattle.pricing.specs.Price.{none}
 use Rattle.search.specs.Rows.{positions, Filled}
 use Rattle.search.specs.declared.walk.Walk.{Walk}
 
@@ -38,5 +39,5 @@ pub record Before (job : Job) (w r : Walk) : Type 0 where
 
 -- the marks of the plan of n tasks, in an array
 pub record PlannedMarks (job : Job) (l : List ℕ) : Type 0 where
-  pub long : length l ≡ 64
+  pub long : length l ≡ taskLimit
   pub marks : (j : ℕ) → 0 < j → j ≤ job .tasks → getD l (j - 1) 0 ≡ planMarks (chainOf job) none (job .tasks) j

@@ -7,7 +7,7 @@ ghost use Rattle.units.specs.Choice.{ite};
 ghost use Rattle.setting.specs.Search.{toVerification, toMemory, toDisk, leastQ, leastM};
 ghost use Rattle.sheet.specs.Job.{costLimit, Sound};
 ghost use Rattle.pricing.specs.Chain.{chainOf};
-ghost use Rattle.pricing.specs.Carry.{none};
+ghost use Rattle.pricing.specs.Price.{none};
 ghost use Rattle.search.specs.Rows.{positions, Offered, Filled};
 ghost use Rattle.search.specs.Table.{tableLength, arrivalAt, TableOf, Usable};
 use crate::table::POSITIONS;

@@ -5,7 +5,7 @@ ghost use lib.ListN.{length};
 ghost use Rattle.setting.specs.Search.{toMemory, leastD, leastM, backD, backM};
 ghost use Rattle.sheet.specs.Job.{Sound};
 ghost use Rattle.pricing.specs.Chain.{chainOf};
-ghost use Rattle.pricing.specs.Carry.{none};
+ghost use Rattle.pricing.specs.Price.{none};
 ghost use Rattle.search.specs.Rows.{Filled};
 ghost use Rattle.search.specs.Table.{TableOf};
 ghost use Rattle.search.specs.Walk.{DiskBacks, Walking, Before, PlannedMarks};

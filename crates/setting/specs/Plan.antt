@@ -11,8 +11,8 @@ use Rattle.setting.specs.Time.{Marks, verification, memory, disk, last, 
 
 -- an allowed setting of n tasks: marks of 0 to 3, the last of them 3, and each stretch, from one marked position (or 0) to the next, allowed
 pub record Setting (c : Chain) (n : ℕ) (f : Marks) : Type 0 where
-  pub marks : (v : ℕ) → 0 < v → v ≤ n → f v ≤ 3
-  pub ends : f n ≡ 3
+  pub marks : (v : ℕ) → 0 < v → v ≤ n → f v ≤ disk
+  pub ends : f n ≡ disk
   pub stretches : (v : ℕ) → 0 < v → v ≤ n → 0 < f v → c .allowed (last verification f v) v ≡ true
 
 -- the positions with a mark of k or more from v down, then 0

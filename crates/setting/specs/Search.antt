@@ -1,4 +1,4 @@
--- The search for a plan, over any chain of costs: least times by position, earliest previous positions, and the marks that these give.
+-- How a plan is found (what a plan is stands in `Plan`), over any chain of costs: least times by position, earliest previous positions, and the marks that these give.
 -- N stands for 'none': no way is kept that takes N ticks or more.
 use Prim.Native.Nat.{ℕ, zero, suc, _+_, _≤_, _<_}
 use mathlib.Core.Path.{_≡_}
@@ -82,13 +82,13 @@ module _ (c : Chain) (N : ℕ) where
       ite (eqb j v) k
       (ite (eqb u m)
       (ite (eqb m d)
-      (ite (eqb d 0) 0 (planTo s 3 (backD d) (backM (backD d) d) d j))
-      (planTo s 2 d (backM d m) m j))
-      (planTo s 1 d m u j))
+      (ite (eqb d 0) 0 (planTo s disk (backD d) (backM (backD d) d) d j))
+      (planTo s memory d (backM d m) m j))
+      (planTo s verification d m u j))
 
   -- the marks that the search gives for n tasks
   unfoldable pub planMarks : ℕ → Marks
-  planMarks n = planTo n 3 (backD n) (backM (backD n) n) n
+  planMarks n = planTo n disk (backD n) (backM (backD n) n) n
 
 -- the least Q(v) with the last copies d and m, where the time M' at m is least too
 abbrev pub bestQ : Chain → ℕ → (d m v : ℕ) → ℕ

@@ -1,17 +1,18 @@
 -- Reading a sheet: one law for each answer, and what an accepted sheet gives. Assumes nothing.
 use Prim.Native.Nat.{ℕ, zero, suc, _<_}
-use mathlib.Core.Path.{_≡_, refl, sym, _∙_}
+use mathlib.Core.Path.{_≡_, refl, sym, _∙_, ap}
 use mathlib.Core.List.{List, [], _∷_}
 use native.Mathlib.Omega.{arith}
 use Rattle.sheet.specs.Refusal.{first}
 use Rattle.sheet.specs.Job.{badCount, jobConditions, Sound}
-use Rattle.sheet.specs.Sheet.{tasks, layoutConditions, jobOf, sheetOf, sheetConditions, sheetRefusal, answer, numberOf, readingOf}
+use Rattle.sheet.specs.Sheet.{tasks, layoutConditions, weightsLength, section, weightsOf, jobOf, sheetOf, sheetConditions, sheetRefusal, answer, numberOf, readingOf}
 use Rattle.sheet.specs.declared.Reading.{Reading}
 use Rattle.sheet.specs.declared.Sheet.{Sheet}
 use Rattle.sheet.specs.declared.Reading.the-variants.{Accepted, Refused}
 use lib.Dec.{lit<}
+use lib.ListN.{take, drop}
 use Rattle.sheet.proofs.Refusals.{Numbered, first-stands, first-goes-on, first-none}
-use Rattle.sheet.proofs.Sections.{layout-numbered, layout-count}
+use Rattle.sheet.proofs.Sections.{layout-numbered, layout-count, layout-weights}
 use Rattle.sheet.proofs.Ranges.{job-sound}
 
 module _ (s : List ℕ) where
@@ -53,6 +54,19 @@ module _ (s : List ℕ) where
   pub reading-number : numberOf (readingOf s) ≡ sheetRefusal s
   unfolding readingOf
   reading-number = number (sheetRefusal s) (sheetOf s)
+
+  -- the answer, with its number
+  pub reading-told : {r : Reading} → r ≡ readingOf s → (r ≡ readingOf s) × (numberOf r ≡ sheetRefusal s)
+  reading-told e = (e, ap numberOf e ∙ reading-number)
+
+  -- the values in numbers alone are those of the job: its weights are the fields from where their section starts
+  pub sheet-job : sheetRefusal s ≡ 0 → jobOf s ≡ record {
+    tasks = sheetOf s .tasks;
+    platform = sheetOf s .platform;
+    weights = weightsOf (take (weightsLength (sheetOf s .tasks)) (drop (sheetOf s .weights) s)) (sheetOf s .tasks);
+  }
+  unfolding jobOf sheetOf section
+  sheet-job e = rw (layout-weights s (sheet-layout e))
 
 pub sheet-numbered : (s : List ℕ) → Numbered (sheetConditions s)
 sheet-numbered s = (lit< tt, (lit< tt, (lit< tt, (lit< tt, (lit< tt, (lit< tt, (lit< tt, (lit< tt, tt))))))))

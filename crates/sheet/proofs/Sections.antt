@@ -1,17 +1,17 @@
 -- What checks 1 to 6 leave of an accepted layout: the task count is in range, and each section lies within the sheet. Assumes nothing.
 use Prim.Native.Nat.{ℕ, zero, suc, _+_, _≤_, _<_}
 use mathlib.Core.Path.{_≡_, refl, sym, _∙_}
-use mathlib.Core.Bool.{Bool, true, false, _||_}
+use mathlib.Core.Bool.{Bool, true, false, not, _||_}
 use mathlib.Core.List.{List, [], _∷_}
 use native.Mathlib.Omega.{arith}
 use native.Mathlib.Nat.{eq-or-lt-of-le}
-use borrow.Author.Tests.{ltb-false, eqb-false}
+use borrow.Author.Tests.{ltb-false, eqb-false, eqb-true, not-false}
 use lib.Dec.{lit<, eqb, ltb}
 use lib.ListN.{length}
 use Rattle.units.specs.Choice.{ite}
 use Rattle.sheet.specs.Refusal.{Condition, first}
 use Rattle.sheet.specs.Job.{taskLimit, badCount}
-use Rattle.sheet.specs.Sheet.{tasks, offset, size, kind, place, sectionEnd, misplaced, badLength, badForm, badSections, badPlaces, badKinds, layoutConditions}
+use Rattle.sheet.specs.Sheet.{tasks, offset, size, kind, place, sectionEnd, misplaced, oneOfEach, platformKind, weightsKind, platformLength, weightsLength, badLength, badForm, badSections, badPlaces, badKinds, layoutConditions}
 use Rattle.sheet.proofs.Refusals.{Numbered, first-clear, or-fails}
 
 pub layout-numbered : (s : List ℕ) → Numbered (layoutConditions s)
@@ -45,6 +45,17 @@ module _ (s : List ℕ) (clear : first (layoutConditions s) ≡ 0) where
 
   places : badPlaces s ≡ false
   places = first-clear _ _ (lit< tt) (first-clear _ _ (lit< tt) (first-clear _ _ (lit< tt) after2 .1) .1) .0
+
+  kinds : badKinds s ≡ false
+  kinds =
+      first-clear _ _ (lit< tt) (first-clear _ _ (lit< tt) (first-clear _ _ (lit< tt) (first-clear _ _ (lit< tt) after2 .1) .1) .1) .0
+
+  -- the weights section has its length
+  pub layout-weights : size s (place s weightsKind) ≡ weightsLength (tasks s)
+  unfolding badKinds
+  layout-weights =
+      let rest = or-fails (not (oneOfEach (kind s 0) (kind s 1))) _ kinds .1 in
+      eqb-true _ _ (not-false (eqb (size s (place s weightsKind)) (weightsLength (tasks s))) (or-fails (not (eqb (size s (place s platformKind)) platformLength)) _ rest .1))
 
   section-within : (i : ℕ) → i < 2 → offset s i + size s i ≤ length s
   unfolding badPlaces

@@ -5,7 +5,7 @@ use mathlib.Core.Bool.{Bool, true, false, not, _||_}
 use mathlib.Core.List.{List, [], _∷_}
 use lib.Dec.{leb, ltb, eqb}
 use lib.ListN.{getD}
-use Rattle.units.specs.Unit.{up}
+use Rattle.units.specs.Unit.{up, exponentLimit}
 use Rattle.sheet.specs.Refusal.{Condition, first}
 use Rattle.sheet.specs.declared.Platform.{Platform}
 use Rattle.sheet.specs.declared.Job.{Job}
@@ -14,13 +14,9 @@ use Rattle.sheet.specs.declared.Job.{Job}
 abbrev pub taskLimit : ℕ
 taskLimit = 64
 
--- costs are 0 to 2^30 ticks, each weight 1 to 2^30, and the weights together at most 2^30
+-- the limit of costs, of weights and of their total: costs are 0 to 2^30 ticks, each weight 1 to 2^30, and the weights together at most 2^30
 abbrev pub costLimit : ℕ
 costLimit = 2 ^ 30
-
--- the exponent limit
-abbrev pub exponentLimit : ℕ
-exponentLimit = 2 ^ 26
 
 -- whether some number below n passes the test
 unfoldable pub some : ℕ → (ℕ → Bool) → Bool
@@ -36,7 +32,7 @@ unfoldable pub total : List ℕ → ℕ → ℕ
 total w zero = 0
 total w (suc n) = total w n + weightAt w n
 
--- y_f and y_s: the rate times W, divided by 2^24, rounded up
+-- y_f and y_s: the rate times W, divided by 2^24, rounded up. A rate r means r / 2^48 errors per tick, so r × W / 2^24 is in units of 2^-24
 abbrev pub exponent : ℕ → ℕ → ℕ
 exponent rate W = up (rate * W)
 

@@ -7,12 +7,11 @@ ghost use Rattle.sheet.specs.Refusal.{first};
 ghost use Rattle.sheet.specs.Job.{taskLimit, costLimit, some, total, exponent, isAllowed, badCost, badWeight, badValue, badTask, jobConditions};
 use crate::Job;
 use crate::Platform;
+use units::EXPONENT_LIMIT;
 
 const COST_LIMIT: u32 = 1 << 30;
 
 const TOTAL_LIMIT: u64 = 1 << 30;
-
-const EXPONENT_LIMIT: u64 = 1 << 26;
 
 fn bad_cost(p: Platform) -> bool
     ensures { λ r. ⌜ r ≡ badCost p ⌝ }

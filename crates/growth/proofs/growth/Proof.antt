@@ -6,7 +6,8 @@ use Prim.Native.Nat.{ℕ, _+_, _-_, _*_, _^_, _≤_, _<_}
 use native.Mathlib.Nat.{le-trans, le-of-eq, mul-le-mul}
 use native.Mathlib.Numerals.{add-one}
 use native.Mathlib.Omega.{arith}
-use Rattle.growth.specs.Growth.{unit, exponentLimit, lastTerm, ceilDiv, term, termSum, growthSum}
+use Rattle.units.specs.Unit.{unit, exponentLimit}
+use Rattle.growth.specs.Growth.{lastTerm, ceilDiv, term, termSum, growthSum}
 use Rattle.growth.proofs.Terms.{term-le-sum, termSum-cap, growth-within, growth-above}
 use Rattle.growth.proofs.growth.Statement.{statement}
 use Rattle.growth.proofs.growth.Tie as tie

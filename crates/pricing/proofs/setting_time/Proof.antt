@@ -5,7 +5,7 @@ use Prim.Native.Nat.{ℕ, _+_, _-_, _≤_, _<_}
 use mathlib.Core.Path.{_≡_, refl, sym, _∙_}
 use native.Mathlib.Omega.{arith}
 use borrow.Author.Needs.{needs}
-use Rattle.pricing.specs.Carry.{none}
+use Rattle.pricing.specs.Price.{none}
 use Rattle.pricing.proofs.Carries.{Carries, carries-start, carries-past, carried-allowed, carried-slow, carried-time, weight-range}
 use Rattle.pricing.proofs.setting_time.Statement.{statement}
 use Rattle.pricing.proofs.setting_time.Tie as tie

@@ -6,7 +6,7 @@ use borrow.Author.Needs.{needs}
 use lib.ListN.{length, getD, length-replicate}
 use Rattle.setting.specs.Search.{toMemory}
 use Rattle.pricing.specs.Chain.{chainOf}
-use Rattle.pricing.specs.Carry.{none}
+use Rattle.pricing.specs.Price.{none}
 use Rattle.search.specs.Rows.{positions}
 use Rattle.search.proofs.Turns.{Turn, turn-first, turn-none, turn-offers, turn-last}
 use Rattle.search.proofs.rows.memory_row.Statement.{statement}

@@ -4,7 +4,7 @@ use mathlib.Core.Path.{refl, sym, _∙_, _≡_}
 use native.Mathlib.Omega.{arith}
 use Rattle.setting.specs.Search.{toMemory, leastQ, toVerification}
 use Rattle.setting.proofs.Search.{reach-cap}
-use Rattle.pricing.specs.Carry.{none}
+use Rattle.pricing.specs.Price.{none}
 use Rattle.pricing.specs.Chain.{chainOf}
 use Rattle.pricing.proofs.Steps.{disk-range, memory-range}
 use Rattle.search.proofs.Entries.{usable-less}

@@ -5,7 +5,7 @@ use mathlib.Core.Logic.{⊎-elim}
 use native.Mathlib.Omega.{arith}
 use borrow.Author.Needs.{needs}
 use lib.ListN.{length, getD, length-replicate}
-use Rattle.pricing.specs.Carry.{none}
+use Rattle.pricing.specs.Price.{none}
 use Rattle.search.specs.Table.{arrivalAt}
 use Rattle.search.proofs.Turns.{Turn, turn-first, turn-cap, turn-none, turn-offers, turn-last}
 use Rattle.search.proofs.rows.verification_row.Statement.{statement}

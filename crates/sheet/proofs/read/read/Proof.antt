@@ -2,7 +2,7 @@ use mathlib.Core.Path.{sym, _∙_, ap}
 use native.Mathlib.Omega.{arith}
 use Rattle.sheet.specs.Sheet.{sheetOf}
 use Rattle.sheet.specs.declared.Reading.the-variants.{Refused, Accepted}
-use Rattle.sheet.proofs.Readings.{sheet-layout, reading-refused, reading-accepted}
+use Rattle.sheet.proofs.Readings.{sheet-layout, reading-refused, reading-accepted, reading-told}
 use borrow.Author.Needs.{needs}
 use Rattle.sheet.proofs.read.read.Statement.{statement}
 use Rattle.sheet.proofs.read.read.Tie as tie
@@ -11,7 +11,7 @@ sheet-refusal-requires : tie.Need-sheet-refusal-requires
 sheet-refusal-requires c κs = search needs
 
 returns : tie.Need-returns
-returns c = ap Refused (c .before .sheet-refusal .ensures) ∙ reading-refused _ (omega (arith, c .before .sheet-refusal .ensures))
+returns c = reading-told _ (ap Refused (c .before .sheet-refusal .ensures) ∙ reading-refused _ (omega (arith, c .before .sheet-refusal .ensures)))
 
 task-count-requires : tie.Need-task-count-requires
 task-count-requires c κs = search needs
@@ -27,7 +27,7 @@ section-start-requires c κs = search needs
 
 returns-2 : tie.Need-returns-2
 unfolding sheetOf
-returns-2 c = rw (c .before .before .before .task-count .ensures .0, c .before .platform-of .ensures, c .before .before .section-of .ensures, c .section-start .ensures .0) (reading-accepted _ (sym (c .before .before .before .before .before .sheet-refusal .ensures) ∙ c .before .before .before .before .if1 .left))
+returns-2 c = rw (c .before .before .before .task-count .ensures .0, c .before .platform-of .ensures, c .before .before .section-of .ensures, c .section-start .ensures .0) (reading-told _ (reading-accepted _ (sym (c .before .before .before .before .before .sheet-refusal .ensures) ∙ c .before .before .before .before .if1 .left)))
 
 pub read-spec : {M : Type 1} → statement M
 read-spec =

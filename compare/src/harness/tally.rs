@@ -1,0 +1,113 @@
+//! Counts, and the report of differences.
+
+use std::fmt::Debug;
+
+/// The calls that answer with a number.
+#[derive(Clone, Copy)]
+pub enum Call {
+    Lookup,
+    Price,
+    Plan,
+    Start,
+    Step,
+    Follow,
+}
+
+const CALLS: [&str; 6] = ["lookup", "price", "plan", "start", "step", "follow"];
+
+/// Every refusal number of document 01.
+pub const NUMBERS: [u64; 18] = [1, 2, 3, 4, 5, 6, 7, 8, 9, 10, 11, 12, 13, 21, 22, 23, 24, 25];
+
+/// How often each refusal is to be seen in the default run.
+pub const WANTED: u64 = 100;
+
+/// Differences printed in full.
+const SHOWN: u64 = 5;
+
+#[derive(Default)]
+pub struct Tally {
+    pub sheets: u64,
+    pub read: u64,
+    pub growths: u64,
+    pub at_limit: u64,
+    pub over_limit: u64,
+    pub differences: u64,
+    counts: [[u64; 26]; 6],
+}
+
+fn hex(bytes: &[u8]) -> String {
+    bytes.iter().map(|b| format!("{b:02x}")).collect()
+}
+
+impl Tally {
+    fn seen(&self, number: u64) -> u64 {
+        self.counts.iter().map(|row| row[number as usize]).sum()
+    }
+
+    fn calls(&self, call: Call) -> u64 {
+        self.counts[call as usize].iter().sum()
+    }
+
+    /// Counts the number that the reference gave.
+    pub fn count(&mut self, call: Call, number: u64) {
+        self.counts[call as usize][number as usize] += 1;
+    }
+
+    /// Compares two results; `sheet` and `input` are printed if they differ.
+    pub fn same<T: PartialEq + Debug>(
+        &mut self,
+        what: &str,
+        sheet: &[u8],
+        input: &dyn Debug,
+        library: &T,
+        reference: &T,
+    ) {
+        if library == reference {
+            return;
+        }
+        self.differences += 1;
+        if self.differences <= SHOWN {
+            println!("difference {} in {what}", self.differences);
+            println!("  sheet     {}", hex(sheet));
+            println!("  input     {input:?}");
+            println!("  library   {library:?}");
+            println!("  reference {reference:?}");
+        }
+    }
+
+    /// Whether every number was seen often enough.
+    pub fn complete(&self) -> bool {
+        NUMBERS.iter().all(|&n| self.seen(n) >= WANTED)
+    }
+
+    fn print_counts(&self) {
+        print!("{:<8}", "number");
+        CALLS.iter().for_each(|name| print!("{name:>10}"));
+        println!("{:>10}", "all");
+        for number in [0].into_iter().chain(NUMBERS) {
+            let name = if number == 0 { "result".into() } else { number.to_string() };
+            print!("{name:<8}");
+            self.counts.iter().for_each(|row| print!("{:>10}", row[number as usize]));
+            println!("{:>10}", self.seen(number));
+        }
+    }
+
+    /// The summary, without the last line.
+    pub fn print(&self) {
+        println!("sheets compared   {} ({} pass 1 to 8)", self.sheets, self.read);
+        println!("lookups           {}", self.calls(Call::Lookup));
+        println!("settings priced   {}", self.calls(Call::Price));
+        println!("plans             {}", self.calls(Call::Plan));
+        println!("starts            {}", self.calls(Call::Start));
+        println!("steps             {}", self.calls(Call::Step));
+        println!("logs              {}", self.calls(Call::Follow));
+        println!("growth sums       {}", self.growths);
+        println!("times of 2^34 - 1 {}", self.at_limit);
+        println!("times of 2^34     {}", self.over_limit);
+        println!("differences       {}", self.differences);
+        self.print_counts();
+        for number in NUMBERS.iter().filter(|&&n| self.seen(n) < WANTED) {
+            println!("refusal {number} seen fewer than {WANTED} times");
+        }
+    }
+}

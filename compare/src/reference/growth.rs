@@ -1,0 +1,31 @@
+//! Growth sums G and H.
+
+/// One, in units of 2^-24.
+pub const ONE: u128 = 1 << 24;
+/// The largest argument of a sum, and the exponent limit of a stretch.
+pub const EXPONENT_LIMIT: u128 = 1 << 26;
+
+/// Terms 0 to 32; term k is the one before times y / ((k + shift) x 2^24),
+/// rounded up. A term stays under 2^28 and y under 2^27, so nothing wraps.
+fn sum(y: u128, shift: u128) -> u128 {
+    if y > EXPONENT_LIMIT {
+        return 0;
+    }
+    let mut term = ONE;
+    let mut total = term;
+    for k in 1..=32u128 {
+        term = (term * y).div_ceil((k + shift) * ONE);
+        total += term;
+    }
+    total
+}
+
+/// G(y), for e^z.
+pub fn g(y: u128) -> u128 {
+    sum(y, 0)
+}
+
+/// H(y), for (e^z - 1) / z.
+pub fn h(y: u128) -> u128 {
+    sum(y, 1)
+}
