@@ -1,4 +1,3 @@
 mod Error
-pub mod Examples
 pub mod Laws
 mod Terms

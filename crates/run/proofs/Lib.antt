@@ -5,7 +5,6 @@ pub mod Steps
 pub mod Records
 pub mod Starts
 pub mod Limits
-pub mod Examples
 pub mod Histories
 pub mod Unbroken
 pub mod Logs

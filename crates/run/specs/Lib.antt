@@ -3,4 +3,3 @@ pub mod Sound
 pub mod Start
 pub mod Log
 pub mod History
-pub mod Examples

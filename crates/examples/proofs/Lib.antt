@@ -1,0 +1,2 @@
+-- The theorem over the starred examples.
+pub mod Examples

@@ -1,0 +1,68 @@
+-- The starred examples of document 01: one list of a number that the definitions give and the number that 01 prints, and one test over it.
+use Prim.Native.Nat.{ℕ, _+_, _^_}
+use mathlib.Core.Bool.{Bool, true, false, _&&_}
+use mathlib.Core.List.{List, [], _∷_}
+use lib.Dec.{eqb}
+use Rattle.growth.specs.Growth.{G, H}
+use Rattle.pricing.specs.Price.{priceOf}
+use Rattle.run.specs.Start.{startOf}
+use Rattle.run.specs.Log.{steps}
+use Rattle.run.specs.declared.Sums.{Sums}
+use Rattle.run.specs.declared.Event.{Event}
+use Rattle.run.specs.declared.Event.the-variants.{Done, Passed, Failed}
+
+-- sheet A: bytes 1, 2, 2, 0; pairs (20, 29), (49, 9); rates 0 and 2^31; C_D 5000, C_M 1000, V 928, R_D 4000, R_M 1000; weights 131072, 131072
+unfoldable pub sheetA : List ℕ
+sheetA =
+    1 ∷ 2 ∷ 2 ∷ 0 ∷ 20 ∷ 0 ∷ 0 ∷ 0 ∷ 29 ∷ 0 ∷ 0 ∷ 0 ∷ 49 ∷ 0 ∷ 0 ∷ 0 ∷ 9 ∷ 0 ∷ 0 ∷ 0 ∷ 1 ∷ 0 ∷ 0 ∷ 0 ∷ 0 ∷ 0 ∷ 0 ∷ 0 ∷ 128 ∷ 136 ∷ 19 ∷ 0 ∷
+    0 ∷ 232 ∷ 3 ∷ 0 ∷ 0 ∷ 160 ∷ 3 ∷ 0 ∷ 0 ∷ 160 ∷ 15 ∷ 0 ∷ 0 ∷ 232 ∷ 3 ∷ 0 ∷ 0 ∷ 2 ∷ 0 ∷ 0 ∷ 2 ∷ 0 ∷ 0 ∷ 0 ∷ 2 ∷ 0 ∷ []
+
+-- one task of 16, rates 2^20 and 0, V 3, C_M 4, C_D 6
+unfoldable pub sheetOne : List ℕ
+sheetOne =
+    1 ∷ 1 ∷ 2 ∷ 0 ∷ 20 ∷ 0 ∷ 0 ∷ 0 ∷ 29 ∷ 0 ∷ 0 ∷ 0 ∷ 49 ∷ 0 ∷ 0 ∷ 0 ∷ 5 ∷ 0 ∷ 0 ∷ 0 ∷ 1 ∷ 0 ∷ 0 ∷ 16 ∷ 0 ∷ 0 ∷ 0 ∷ 0 ∷ 0 ∷ 6 ∷ 0 ∷ 0 ∷ 0 ∷
+    4 ∷ 0 ∷ 0 ∷ 0 ∷ 3 ∷ 0 ∷ 0 ∷ 0 ∷ 0 ∷ 0 ∷ 0 ∷ 0 ∷ 0 ∷ 0 ∷ 0 ∷ 0 ∷ 2 ∷ 16 ∷ 0 ∷ 0 ∷ 0 ∷ []
+
+-- the time of marks under a sheet
+unfoldable pub timeUnder : List ℕ → List ℕ → ℕ
+timeUnder sheet marks = priceOf sheet marks .time
+
+-- the run of A under 23 through Done, Passed, Done, Failed, Done, Passed
+unfoldable pub runOfA : Sums
+runOfA =
+    steps (startOf sheetA (2 ∷ 3 ∷ []) .run) (Done ∷ Passed ∷ Done ∷ Failed ∷ Done ∷ Passed ∷ []) .run .place .sums
+
+pub record Example : Type 0 where
+  -- what the definitions give
+  pub given : ℕ
+  -- what document 01 prints
+  pub printed : ℕ
+
+abbrev example : ℕ → ℕ → Example
+example given printed = record { given = given; printed = printed }
+
+unfoldable pub starred : List Example
+starred =
+    example (G 0) (2 ^ 24)
+    ∷ example (H 0) (2 ^ 24)
+    ∷ example (G 1) (2 ^ 24 + 32)
+    ∷ example (H 1) (2 ^ 24 + 32)
+    ∷ example (G 2) (2 ^ 24 + 33)
+    ∷ example (G (2 ^ 24)) 45605227
+    ∷ example (G (2 ^ 25)) 123967816
+    ∷ example (timeUnder sheetA (0 ∷ 3 ∷ [])) 1949855
+    ∷ example (timeUnder sheetA (1 ∷ 3 ∷ [])) 1340173
+    ∷ example (timeUnder sheetA (2 ∷ 3 ∷ [])) 726347
+    ∷ example (timeUnder sheetA (3 ∷ 3 ∷ [])) 731347
+    ∷ example (timeUnder sheetOne (3 ∷ [])) 30
+    ∷ example (runOfA .kept) 262144
+    ∷ example (runOfA .redone) 131072
+    ∷ example (runOfA .verify) 2784
+    ∷ example (runOfA .saves) 7000
+    ∷ example (runOfA .recovery) 1000
+    ∷ []
+
+-- each example gives what 01 prints
+unfoldable pub allAgree : List Example → Bool
+allAgree [] = true
+allAgree (e ∷ es) = eqb (e .given) (e .printed) && allAgree es
