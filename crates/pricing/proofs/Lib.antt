@@ -3,3 +3,4 @@ pub mod Products
 pub mod Carries
 pub mod Steps
 pub mod Prices
+pub mod Settings

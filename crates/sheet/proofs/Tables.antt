@@ -87,3 +87,9 @@ weights-more p j h =
         go : Dec (i < j) → entry j i ≡ entry (j + 1) i
         go (yes l) = rw (lt-ltb i j l, lt-ltb i (j + 1) (omega arith))
         go (no l) = rw (le-ltb i j (omega arith), le-ltb i (j + 1) (omega arith))
+
+-- where each fails, none passes
+pub some-none : (n : ℕ) (p : ℕ → Bool) → ((j : ℕ) → j < n → p j ≡ false) → some n p ≡ false
+unfolding some
+some-none zero p e = refl
+some-none (suc n) p e = rw (some-none n p (λ j h. e j (omega arith))) (e n (omega arith))
