@@ -1,6 +1,6 @@
 -- The starred examples of document 01: one list of a number that the definitions give and the number that 01 prints, and one test over it.
 use Prim.Native.Nat.{ℕ, _+_, _^_}
-use mathlib.Core.Bool.{Bool, true, false, _&&_}
+use mathlib.Core.Bool.{Bool, true, _&&_}
 use mathlib.Core.List.{List, [], _∷_}
 use lib.Dec.{eqb}
 use Rattle.growth.specs.Growth.{G, H}
@@ -8,7 +8,6 @@ use Rattle.pricing.specs.Price.{priceOf}
 use Rattle.run.specs.Start.{startOf}
 use Rattle.run.specs.Log.{steps}
 use Rattle.run.specs.declared.Sums.{Sums}
-use Rattle.run.specs.declared.Event.{Event}
 use Rattle.run.specs.declared.Event.the-variants.{Done, Passed, Failed}
 
 -- sheet A: bytes 1, 2, 2, 0; pairs (20, 29), (49, 9); rates 0 and 2^31; C_D 5000, C_M 1000, V 928, R_D 4000, R_M 1000; weights 131072, 131072

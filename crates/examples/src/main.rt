@@ -1,6 +1,5 @@
 // Runs the examples of document 01 that are not starred, and prints what each gives; the starred ones are proved (`starred-examples`).
 ghost use Rattle.io.specs.Counts.{Counts};
-
 use libc::STDOUT_FILENO;
 
 // The bytes of a file at the front of the buffer, and how many; one that cannot be read has none.

@@ -2,14 +2,14 @@
 -- Assumes nothing.
 use Prim.Native.Nat.{ℕ, zero, suc, _+_, _-_, _≤_, _<_}
 use mathlib.Core.Path.{_≡_, refl, sym, _∙_}
-use mathlib.Core.Bool.{Bool, true, false, not, _||_, _&&_}
+use mathlib.Core.Bool.{Bool, true, false, not, _||_}
 use mathlib.Core.List.{List}
 use mathlib.Core.Logic.{_⊎_, inl, inr}
 use native.Mathlib.Nat.{sub-self, eq-or-lt-of-le}
 use native.Mathlib.Numerals.{add-one}
 use native.Mathlib.Omega.{arith}
-use borrow.Author.Tests.{le-leb, lt-leb, ltb-false, eqb-true, eqb-false, not-false}
-use lib.Dec.{leb, ltb, eqb, lit<}
+use borrow.Author.Tests.{le-leb, lt-leb, ltb-false, eqb-true, not-false}
+use lib.Dec.{ltb, eqb, lit<}
 use lib.ListN.{length, getD}
 use Rattle.setting.specs.Time.{Marks, verification, last}
 use Rattle.setting.specs.Equations.{last-here, last-past, last-lt}

@@ -4,7 +4,7 @@ use mathlib.Core.Bool.{Bool, not, _||_, _&&_}
 use mathlib.Core.List.{List, [], _∷_}
 use lib.Dec.{leb, ltb, eqb}
 use lib.ListN.{length, getD}
-use Rattle.setting.specs.Time.{Marks, verification, disk, last}
+use Rattle.setting.specs.Time.{Marks, verification, last}
 use Rattle.sheet.specs.Refusal.{Condition}
 use Rattle.sheet.specs.Job.{some, total, isAllowed}
 use Rattle.sheet.specs.declared.Job.{Job}

@@ -1,15 +1,14 @@
 -- The plan's promise, one law for each answer. The search's least time is none just where every allowed setting is too slow, and below that its marks are the
 -- plan; 'every sheet and every buffer' is the four cases of `Plans`. Assumes nothing.
-use Prim.Native.Nat.{ℕ, suc, _-_, _≤_, _<_}
-use mathlib.Core.Path.{_≡_, refl, sym, _∙_, ap}
+use Prim.Native.Nat.{ℕ, _-_, _≤_, _<_}
+use mathlib.Core.Path.{_≡_, refl, sym}
 use mathlib.Core.List.{List, _++_}
 use mathlib.Core.Logic.{_⊎_, inl, inr}
 use native.Mathlib.Nat.{eq-zero-or-pos}
 use native.Mathlib.Omega.{arith}
 use lib.ListN.{length, getD, take, drop}
-use lib.Seq.{getD-take, ext-getD, length-take-le}
-use Rattle.setting.specs.Time.{Marks, D}
-use Rattle.setting.specs.Plan.{Setting, IsPlan}
+use lib.Seq.{getD-take}
+use Rattle.setting.specs.Plan.{IsPlan}
 use Rattle.setting.specs.Search.{toDisk, leastD, planMarks}
 use Rattle.setting.proofs.Agree.{plan-agree}
 use Rattle.setting.proofs.Theorems.{plan-is-least, too-slow-exactly}
@@ -20,11 +19,11 @@ use Rattle.sheet.proofs.Readings.{sheet-layout}
 use Rattle.sheet.specs.declared.Job.{Job}
 use Rattle.marks.specs.Marks.{marksOf}
 use Rattle.pricing.specs.Chain.{chainOf}
-use Rattle.pricing.specs.Price.{timeLimit, none}
+use Rattle.pricing.specs.Price.{none}
 use Rattle.pricing.specs.declared.Answer.{Answer}
 use Rattle.search.specs.Rows.{Filled}
 use Rattle.search.specs.Walk.{DiskBacks, PlannedMarks}
-use Rattle.planner.specs.Promise.{AllSlow, Refused, Planned, Plans, PlansJob, shortBuffer, slowPlan}
+use Rattle.planner.specs.Promise.{AllSlow, Plans, PlansJob, shortBuffer, slowPlan}
 use Rattle.planner.proofs.Buffers.{written-front, written-rest, written-length}
 
 module _ (job : Job) (sound : Sound job) where

@@ -1,25 +1,23 @@
 -- What the pricing loop carries is what document 01 says: after j tasks it has the weight since the last mark, the last copies, Q', M' and D(d) as seen
 -- from position j + 1. The step past a mark is one application of the equations of Q, M and D. Assumes nothing.
-use Prim.Native.Nat.{ℕ, zero, suc, _+_, _-_, _*_, _≤_, _<_, min}
-use mathlib.Core.Path.{_≡_, refl, sym, _∙_}
-use mathlib.Core.Bool.{Bool, true, false, not, _&&_}
+use Prim.Native.Nat.{ℕ, zero, suc, _+_, _-_, _≤_, _<_, min}
+use mathlib.Core.Path.{_≡_, sym, _∙_}
+use mathlib.Core.Bool.{true, false}
 use mathlib.Core.List.{List}
-use native.Mathlib.Nat.{min-eq-left, min-eq-right, le-trans, le-of-eq}
+use native.Mathlib.Nat.{min-eq-left, min-eq-right}
 use native.Mathlib.Numerals.{add-one}
 use native.Mathlib.Omega.{arith}
-use borrow.Author.Tests.{le-leb, not-false}
+use borrow.Author.Tests.{not-false}
 use lib.ListN.{getD}
-use Rattle.units.specs.Unit.{unit, up}
 use Rattle.setting.specs.Chain.{Chain}
 use Rattle.setting.specs.Time.{Marks, verification, memory, disk, last, S, Q, M, D, Q', M'}
 use Rattle.setting.specs.Equations.{last-here, last-past, last-lt, Q-is, M-is, D-is, D-zero, Q'-start, M'-start}
 use Rattle.setting.proofs.Spent.{spent, Q'-same, Q'-next, Q'-none, M'-same, M'-next, M'-none, D-same, D-next, spent-done, spent-mono}
-use Rattle.sheet.specs.Job.{costLimit, some, weightAt, isAllowed, Sound}
+use Rattle.sheet.specs.Job.{costLimit, weightAt, isAllowed, Sound}
 use Rattle.sheet.specs.declared.Job.{Job}
 use Rattle.sheet.proofs.Tables.{some-fails}
 use Rattle.marks.specs.Pays.{paysOf, table}
-use Rattle.marks.specs.Recovery.{fromDisk, fromMemory}
-use Rattle.marks.specs.Marks.{highestMark, marksOf, between, stretchAllowed, badStretch, badStretches}
+use Rattle.marks.specs.Marks.{highestMark, marksOf, between, stretchAllowed, badStretches}
 use Rattle.marks.proofs.Stretches.{mark-at, between-range, running, running-start, running-add, running-marked, running-plain, stretch-marked}
 use Rattle.pricing.specs.Chain.{chainOf}
 use Rattle.pricing.specs.Price.{timeOf, none}

@@ -1,19 +1,16 @@
 -- One law for each answer of pricing: the first refusal that holds, with time 0, or the time of the setting. Assumes nothing.
-use Prim.Native.Nat.{ℕ, zero, suc, _≤_, _<_, min}
-use mathlib.Core.Path.{_≡_, refl, sym, _∙_}
-use mathlib.Core.Bool.{true, false}
+use Prim.Native.Nat.{ℕ, _≤_, _<_, min}
+use mathlib.Core.Path.{_≡_, sym, _∙_}
 use mathlib.Core.List.{List, [], _∷_, _++_}
 use native.Mathlib.Omega.{arith}
-use borrow.Author.Tests.{lt-ltb, le-ltb, eq-eqb, ne-eqb}
-use lib.Dec.{ltb}
-use Rattle.units.specs.Choice.{ite}
-use Rattle.sheet.specs.Refusal.{Condition, first}
+use borrow.Author.Tests.{lt-ltb, le-ltb, ne-eqb}
+use Rattle.sheet.specs.Refusal.{first}
 use Rattle.sheet.specs.Sheet.{jobOf, sheetConditions, sheetRefusal}
 use Rattle.sheet.proofs.Refusals.{first-stands, first-goes-on}
 use Rattle.sheet.proofs.Readings.{sheet-numbered}
 use Rattle.marks.specs.Marks.{marksConditions}
 use Rattle.marks.proofs.Stretches.{marks-numbered}
-use Rattle.pricing.specs.Price.{timeLimit, timeOf, tooSlow, priceRefusal, priceConditions, answered, priceOf, none}
+use Rattle.pricing.specs.Price.{timeLimit, timeOf, tooSlow, priceRefusal, answered, none}
 use Rattle.pricing.specs.declared.Answer.{Answer}
 
 -- a refused call has time 0

@@ -1,6 +1,6 @@
 -- Bounds of the products in S: each factor has a cap, so each product is below 2^64 and each rounded part below 2^40. Assumes nothing.
 use Prim.Native.Nat.{ℕ, _+_, _-_, _*_, _≤_, _<_, _^_}
-use mathlib.Core.Path.{_≡_, refl, sym, _∙_}
+use mathlib.Core.Path.{_≡_}
 use mathlib.Core.Bool.{true}
 use native.Mathlib.Nat.{mul-le-mul}
 use native.Mathlib.Omega.{arith}
@@ -8,7 +8,7 @@ use borrow.Author.Tests.{leb-true}
 use Rattle.units.specs.Unit.{unit, up}
 use Rattle.growth.specs.Growth.{G, H}
 use Rattle.growth.proofs.Laws.{G-cap, H-cap, G-unit, G-sum}
-use Rattle.sheet.specs.Job.{costLimit, exponent, isAllowed}
+use Rattle.sheet.specs.Job.{costLimit, isAllowed}
 use Rattle.sheet.specs.declared.Platform.{Platform}
 use Rattle.pricing.specs.Chain.{silentExponent, stopExponent, silentGrowth, errorGrowth, workTime}
 use Rattle.pricing.specs.Carry.{factorsOf}

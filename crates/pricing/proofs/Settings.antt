@@ -1,17 +1,16 @@
 -- A list of marks passes checks 9 and 10 exactly where it is an allowed setting of n marks. Assumes nothing.
 use Prim.Native.Nat.{ℕ, zero, suc, _-_, _≤_, _<_}
-use mathlib.Core.Path.{_≡_, refl, sym, _∙_, ap}
-use mathlib.Core.Bool.{Bool, true, false, not, _||_, _&&_}
-use mathlib.Core.List.{List, [], _∷_}
+use mathlib.Core.Path.{_≡_, sym, _∙_, ap}
+use mathlib.Core.Bool.{true, false, not}
+use mathlib.Core.List.{List}
 use native.Mathlib.Decide.{decLe}
 use native.Mathlib.Omega.{arith}
-use borrow.Author.Tests.{le-ltb, le-leb, lt-leb, eq-eqb, not-false}
-use lib.Dec.{ltb, leb, eqb}
+use borrow.Author.Tests.{le-ltb, eq-eqb, not-false}
+use lib.Dec.{ltb}
 use lib.ListN.{length, getD}
 use Rattle.setting.specs.Time.{verification, last}
 use Rattle.setting.specs.Plan.{Setting}
 use Rattle.sheet.specs.Refusal.{first}
-use Rattle.sheet.specs.Job.{some}
 use Rattle.sheet.specs.declared.Job.{Job}
 use Rattle.sheet.proofs.Tables.{some-fails, some-none}
 use Rattle.marks.specs.Marks.{highestMark, marksOf, stretchAllowed, badMarks, badStretch, badStretches, marksConditions}
@@ -28,14 +27,14 @@ module _ (job : Job) (l : List ℕ) where
   pub checks-setting : first (marksConditions job l) ≡ 0 → (length l ≡ job .tasks) × Setting (chainOf job) (job .tasks) (marksOf l)
   unfolding chainOf badStretches
   checks-setting e =
-      let r = marks-right job l e in
-      ( marks-length (job .tasks) l (r .0)
-      , record
-          { marks = λ v p h. marks-range (job .tasks) l (r .0) (v - 1) (omega arith)
-          ; ends = marks-end (job .tasks) l (r .0)
-          ; stretches = positioned (λ v. v ≤ job .tasks → 0 < marksOf l v → stretchAllowed job (last verification (marksOf l) v) v ≡ true)
-            (λ j h k. not-false _ (sym (stretch-marked job l j (rw (mark-at l j) at k)) ∙ some-fails (job .tasks) _ (r .1) j h))
-          }
+      let r = marks-right job l e in (
+        marks-length (job .tasks) l (r .0),
+        record {
+          marks = λ v p h. marks-range (job .tasks) l (r .0) (v - 1) (omega arith);
+          ends = marks-end (job .tasks) l (r .0);
+          stretches = positioned (λ v. v ≤ job .tasks → 0 < marksOf l v → stretchAllowed job (last verification (marksOf l) v) v ≡ true)
+              (λ j h k. not-false _ (sym (stretch-marked job l j (rw (mark-at l j) at k)) ∙ some-fails (job .tasks) _ (r .1) j h));
+        },
       )
 
   -- and an allowed setting of n marks passes them
@@ -46,6 +45,7 @@ module _ (job : Job) (l : List ℕ) where
     where
       range : (j : ℕ) → j < job .tasks → ltb highestMark (getD l j 0) ≡ false
       range j h = le-ltb highestMark (getD l j 0) (rw (mark-at l j) at (s .marks (suc j) (omega arith) h))
+
       allowed : (j : ℕ) → j < job .tasks → badStretch job l (suc j) ≡ false
       allowed j h = go (decLe verification (marksOf l (suc j)))
         where

@@ -1,5 +1,5 @@
 -- How far the numbers of pricing may go: what its arithmetic asks of them, so that no product or sum passes 64 bits.
-use Prim.Native.Nat.{ℕ, _+_, _*_, _≤_, _<_, _^_}
+use Prim.Native.Nat.{_+_, _*_, _≤_, _<_, _^_}
 use Rattle.units.specs.Unit.{unit}
 use Rattle.sheet.specs.Job.{costLimit}
 use Rattle.sheet.specs.declared.Platform.{Platform}

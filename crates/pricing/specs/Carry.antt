@@ -1,6 +1,5 @@
 -- How the price is worked out, task by task: what is carried from one position to the next. `Carries` (proofs) ties it to Q, M and D.
-use Prim.Native.Nat.{ℕ, _+_, _-_, _*_, _^_}
-use lib.Dec.{leb}
+use Prim.Native.Nat.{ℕ, _+_, _-_, _*_}
 use Rattle.units.specs.Choice.{ite}
 use Rattle.units.specs.Unit.{unit, up}
 use Rattle.sheet.specs.declared.Platform.{Platform}

@@ -1,6 +1,6 @@
 -- The walk back over the rows: each place is a state of the theory's walk, and the place before it is the state before. Assumes nothing.
 use Prim.Native.Nat.{ℕ, zero, suc, pred, _+_, _-_, _≤_, _<_}
-use mathlib.Core.Path.{_≡_, refl, sym, _∙_, ap}
+use mathlib.Core.Path.{_≡_, refl, sym, _∙_}
 use mathlib.Core.Logic.{_≢_}
 use mathlib.Core.List.{List}
 use native.Mathlib.Decide.{decLt, ℕ-discrete}
@@ -11,14 +11,14 @@ use lib.Dec.{eqb}
 use lib.ListN.{length, getD, set, replicate, length-set, length-replicate}
 use lib.Seq.{getD-set-same, getD-set-other}
 use Rattle.units.specs.Choice.{ite}
-use Rattle.setting.specs.Search.{back, toVerification, leastQ, toMemory, leastM, toDisk, leastD, backD, backM, backQ, bestQ, State, planTo, planMarks}
+use Rattle.setting.specs.Search.{toVerification, toMemory, leastM, leastD, backD, backM, backQ, planTo, planMarks}
 use Rattle.setting.proofs.Walk.{backD-lt, backD-reached, backD-arrives, backM-lt, backM-ge, backM-reached, backQ-lt, backQ-ge, state-copy, state-mark, planTo-here, planTo-mark, planTo-memory, planTo-disk, planTo-start, planTo-past}
 use Rattle.sheet.specs.Job.{Sound}
 use Rattle.sheet.specs.declared.Job.{Job}
 use Rattle.marks.specs.Recovery.{fromDisk, fromMemory}
 use Rattle.pricing.specs.Chain.{chainOf}
 use Rattle.pricing.specs.Price.{none}
-use Rattle.search.specs.Rows.{positions, Filled}
+use Rattle.search.specs.Rows.{Filled}
 use Rattle.search.specs.Table.{TableOf, arrivalAt}
 use Rattle.search.specs.Walk.{Backs, DiskBacks, Walking, Before, PlannedMarks}
 use Rattle.search.specs.declared.walk.Walk.{Walk}

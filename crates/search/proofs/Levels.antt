@@ -1,33 +1,32 @@
 -- The three levels of the search: an arrival by the table is the arrival of document 01, so the rows are those of the theory. Assumes nothing.
-use Prim.Native.Nat.{ℕ, zero, suc, _+_, _-_, _*_, _≤_, _<_}
+use Prim.Native.Nat.{ℕ, zero, suc, _+_, _-_, _≤_, _<_}
 use mathlib.Core.Path.{_≡_, refl, sym, _∙_, ap}
 use mathlib.Core.Logic.{_≢_}
 use mathlib.Core.Bool.{Bool, true, false}
 use mathlib.Core.List.{List}
 use native.Mathlib.Decide.{decLe, decLt, ℕ-discrete}
 use native.Mathlib.Omega.{arith}
-use borrow.Author.Tests.{leb-true, leb-false, le-leb, lt-leb, lt-ltb, le-ltb, ne-eqb}
+use borrow.Author.Tests.{leb-false, lt-leb, le-ltb}
 use lib.Dec.{ltb, leb}
-use lib.ListN.{length, getD}
+use lib.ListN.{getD}
 use Rattle.units.specs.Choice.{ite}
-use Rattle.growth.specs.Growth.{G}
 use Rattle.growth.proofs.Laws.{G-none}
 use Rattle.setting.specs.Time.{S}
 use Rattle.setting.specs.Search.{Cost, least, earliest, reach, way, back, toVerification, leastQ, toMemory, leastM, toDisk}
-use Rattle.setting.proofs.Search.{reach-start, reach-is, reach-cap}
-use Rattle.sheet.specs.Job.{costLimit, isAllowed, Sound}
+use Rattle.setting.proofs.Search.{reach-start, reach-is}
+use Rattle.sheet.specs.Job.{isAllowed, Sound}
 use Rattle.sheet.specs.declared.Job.{Job}
 use Rattle.marks.specs.Marks.{between, stretchAllowed}
 use Rattle.marks.specs.Recovery.{fromDisk, fromMemory}
 use Rattle.marks.proofs.Stretches.{between-range}
-use Rattle.pricing.specs.Chain.{chainOf, silentExponent, stopExponent, errorGrowth}
+use Rattle.pricing.specs.Chain.{chainOf, errorGrowth}
 use Rattle.pricing.specs.Carry.{factorsOf, stretchOf}
 use Rattle.pricing.specs.Price.{none}
 use Rattle.pricing.specs.Bounds.{Factored}
 use Rattle.pricing.specs.declared.Factors.{Factors}
 use Rattle.pricing.proofs.Products.{factors-bounded}
-use Rattle.search.specs.Rows.{positions, Offered, Filled}
-use Rattle.search.specs.Table.{entryOf, Tabled, TableOf, arrivalAt, Usable}
+use Rattle.search.specs.Rows.{Offered, Filled}
+use Rattle.search.specs.Table.{entryOf, TableOf, arrivalAt, Usable}
 use Rattle.search.proofs.Entries.{arrival-none, arrival-some}
 
 -- costs that agree up to the top give the same least times and positions before

@@ -1,19 +1,18 @@
 -- A search fills its rows forward: once every position before k has offered its arrivals, the entry at v is the least over the positions before k and v.
 -- So the entry at k itself is final when its turn comes, and after the last turn every entry is. Assumes nothing.
 use Prim.Native.Nat.{ℕ, zero, suc, _≤_, _<_, _+_, min}
-use mathlib.Core.Path.{_≡_, refl, sym, _∙_, ap}
+use mathlib.Core.Path.{_≡_, refl, sym, _∙_}
 use mathlib.Core.Logic.{_≢_}
-use mathlib.Core.Bool.{Bool, true, false}
 use mathlib.Core.List.{List}
-use native.Mathlib.Decide.{decLe, decLt, ℕ-discrete}
+use native.Mathlib.Decide.{decLt, ℕ-discrete}
 use native.Mathlib.Omega.{arith}
-use borrow.Author.Tests.{lt-ltb, le-ltb}
+use borrow.Author.Tests.{le-ltb}
 use lib.Dec.{ltb}
 use lib.ListN.{length, getD, set, replicate, length-set, length-replicate, getD-replicate}
 use lib.Seq.{getD-set-same, getD-set-other}
 use Rattle.units.specs.Choice.{ite}
 use Rattle.setting.specs.Search.{Cost, least, earliest, reach, way, back}
-use Rattle.setting.proofs.Search.{least-new, least-old, least-cap, reach-start, reach-is, way-is, way-unreached, way-before}
+use Rattle.setting.proofs.Search.{least-old, least-cap, reach-start, reach-is, way-is, way-unreached, way-before}
 use Rattle.search.specs.Rows.{positions, Offered, Filled}
 
 -- the rows when it is k's turn
@@ -171,25 +170,3 @@ module _ (time before : List ℕ) (u v : ℕ) (c : ℕ → ℕ) (time' before' :
       back-here : (w : ℕ) → u < w → w < v + 1 → Dec (w ≡ v) → getD (set before' v from) w 0 ≡ ite (ltb (c w) (getD time w 0)) u (getD before w 0)
       back-here w a b (yes e) = rw (e, getD-set-same before' v from 0 (omega (arith, o .backs-long)), o .time-late v (omega arith), o .back-late v (omega arith))
       back-here w a b (no e) = getD-set-other before' v w from 0 e ∙ o .back-at w a (omega arith)
-
-  -- an offer that is no less changes nothing
-  pub offered-same : getD time v 0 ≤ c v → Offered time before u (v + 1) c time' before'
-  offered-same n =
-      record {
-        times-long = o .times-long;
-        backs-long = o .backs-long;
-        time-at = λ w a b. time-here w a b (ℕ-discrete w v);
-        back-at = λ w a b. back-here w a b (ℕ-discrete w v);
-        time-early = o .time-early;
-        back-early = o .back-early;
-        time-late = λ w a. o .time-late w (omega arith);
-        back-late = λ w a. o .back-late w (omega arith);
-      }
-    where
-      time-here : (w : ℕ) → u < w → w < v + 1 → Dec (w ≡ v) → getD time' w 0 ≡ ite (ltb (c w) (getD time w 0)) (c w) (getD time w 0)
-      time-here w a b (yes e) = rw (e, le-ltb (c v) (getD time v 0) n) (o .time-late v (omega arith))
-      time-here w a b (no e) = o .time-at w a (omega arith)
-
-      back-here : (w : ℕ) → u < w → w < v + 1 → Dec (w ≡ v) → getD before' w 0 ≡ ite (ltb (c w) (getD time w 0)) u (getD before w 0)
-      back-here w a b (yes e) = rw (e, le-ltb (c v) (getD time v 0) n) (o .back-late v (omega arith))
-      back-here w a b (no e) = o .back-at w a (omega arith)

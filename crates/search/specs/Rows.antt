@@ -1,5 +1,5 @@
 -- How least times are kept: rows of times and of positions before, one entry for each position, and what it means that a search has filled them.
-use Prim.Native.Nat.{ℕ, suc, _≤_, _<_}
+use Prim.Native.Nat.{ℕ, _≤_, _<_}
 use mathlib.Core.Path.{_≡_}
 use mathlib.Core.Logic.{_≢_}
 use mathlib.Core.List.{List}

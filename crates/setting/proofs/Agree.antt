@@ -1,14 +1,12 @@
 -- Marks that agree at positions 1 to n have the same last positions, times and lists there, so one is the plan where the other is. Assumes nothing.
-use Prim.Native.Nat.{ℕ, zero, suc, _+_, _≤_, _<_}
-use mathlib.Core.Path.{_≡_, refl, _∙_, sym, ap}
+use Prim.Native.Nat.{ℕ, zero, suc, _≤_, _<_}
+use mathlib.Core.Path.{_≡_, refl, _∙_, sym}
 use native.Mathlib.Decide.{ℕ-discrete}
 use native.Mathlib.Omega.{arith}
-use lib.Dec.{leb, eqb}
-use Rattle.units.specs.Choice.{ite}
 use Rattle.setting.specs.Chain.{Chain}
-use Rattle.setting.specs.Time.{Marks, verification, memory, disk, last, Times, times, D}
+use Rattle.setting.specs.Time.{Marks, verification, memory, disk, last, times, D}
 use Rattle.setting.specs.Equations.{last-le, last-lt}
-use Rattle.setting.specs.Plan.{Setting, listed, Wins, IsPlan}
+use Rattle.setting.specs.Plan.{Setting, listed, IsPlan}
 
 module _ (f g : Marks) where
   last-agree : (k v : ℕ) → ((j : ℕ) → 0 < j → j < v → f j ≡ g j) → last k f v ≡ last k g v

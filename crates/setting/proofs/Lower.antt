@@ -7,7 +7,7 @@ use mathlib.Core.Bool.{true}
 use native.Mathlib.Nat.{mul-le-mul-left}
 use native.Mathlib.Decide.{ℕ-discrete}
 use native.Mathlib.Omega.{arith}
-use Rattle.units.specs.Unit.{up}
+use Rattle.units.proofs.Laws.{up-mono}
 use Rattle.setting.specs.Chain.{Chain}
 use Rattle.setting.specs.Time.{Marks, verification, memory, disk, last, S, Q, M, D, Q', M'}
 use Rattle.setting.specs.Equations.{Q'-else, M'-else, Q-is, M-is, D-is}
@@ -15,10 +15,6 @@ use Rattle.setting.specs.Plan.{Setting}
 use Rattle.setting.specs.Search.{toVerification, leastQ, toMemory, leastM, toDisk, leastD, bestQ}
 use Rattle.setting.proofs.Last.{last-marked, last-last, InOrder, last-in-order}
 use Rattle.setting.proofs.Search.{reach-lower, leastQ-start, leastM-start, leastD-start}
-
-up-mono : {p q : ℕ} → p ≤ q → up p ≤ up q
-unfolding up
-up-mono h = omega arith
 
 -- S rises with Q' and M'
 pub S-mono : (c : Chain) (u v m d : ℕ) {s t a b : ℕ} → s ≤ t → a ≤ b → S c u v m d s a ≤ S c u v m d t b

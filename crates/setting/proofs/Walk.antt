@@ -9,7 +9,7 @@ use native.Mathlib.Decide.{ℕ-discrete}
 use native.Mathlib.Omega.{arith}
 use borrow.Author.Tests.{eq-eqb, ne-eqb}
 use Rattle.setting.specs.Chain.{Chain}
-use Rattle.setting.specs.Time.{verification, memory, disk, S}
+use Rattle.setting.specs.Time.{verification, disk, S}
 use Rattle.setting.specs.Search.{toVerification, leastQ, toMemory, leastM, toDisk, leastD, backD, backM, backQ, planTo, bestQ, State}
 use Rattle.setting.proofs.Search.{IsBack, back-is, back-le}
 

@@ -1,17 +1,17 @@
 -- Lookup by kind: one law for each of its answers, and that the stretch lies within the sheet. Assumes nothing.
 use Prim.Native.Nat.{ℕ, _+_, _-_, _≤_, _<_}
-use mathlib.Core.Path.{_≡_, refl, sym, _∙_, ap}
-use mathlib.Core.Bool.{Bool, true, false, not, _||_}
+use mathlib.Core.Path.{_≡_, sym}
+use mathlib.Core.Bool.{Bool, not, _||_}
 use mathlib.Core.List.{List, [], _∷_}
 use native.Mathlib.Decide.{ℕ-discrete}
 use native.Mathlib.Omega.{arith}
-use borrow.Author.Tests.{eq-eqb, ne-eqb, eqb-true}
+use borrow.Author.Tests.{eq-eqb, ne-eqb}
 use lib.Dec.{eqb}
 use lib.ListN.{length, take, drop}
 use Rattle.units.specs.Choice.{ite}
-use Rattle.sheet.specs.Refusal.{Condition, first}
+use Rattle.sheet.specs.Refusal.{first}
 use Rattle.sheet.specs.Sheet.{platformKind, weightsKind, offset, size, place, sectionEnd, layoutConditions}
-use Rattle.sheet.specs.Lookup.{lookupConditions, lookupRefusal, lookupStart, lookupSize}
+use Rattle.sheet.specs.Lookup.{lookupRefusal, lookupStart, lookupSize}
 use Rattle.sheet.proofs.Refusals.{first-stands, first-goes-on, first-none}
 use Rattle.sheet.proofs.Sections.{layout-numbered, section-ends}
 

@@ -1,21 +1,20 @@
 -- What checks 3, 7 and 8 leave of accepted values: the ranges of costs, weights and their total, and each task allowed alone. Assumes nothing.
-use Prim.Native.Nat.{ℕ, zero, suc, _+_, _*_, _^_, _≤_, _<_}
-use mathlib.Core.Path.{_≡_, refl, sym, _∙_}
-use mathlib.Core.Bool.{Bool, true, false, not, _||_}
-use mathlib.Core.List.{List, [], _∷_}
+use Prim.Native.Nat.{ℕ, _+_, _*_, _^_, _≤_, _<_}
+use mathlib.Core.Path.{_≡_}
+use mathlib.Core.Bool.{false, _||_}
+use mathlib.Core.List.{List}
 use native.Mathlib.Nat.{le-trans, le-of-lt, mul-le-mul}
 use native.Mathlib.Numerals.{add-one}
 use native.Mathlib.Omega.{arith}
 use borrow.Author.Tests.{ltb-false, eqb-false, le-ltb, not-false}
 use lib.Dec.{lit<, lit≤, ltb, eqb}
-use lib.ListN.{getD}
-use Rattle.sheet.specs.Refusal.{Condition, first}
+use Rattle.sheet.specs.Refusal.{first}
 use Rattle.sheet.specs.Job.{costLimit, some, total, weightAt, isAllowed, badCount, badCost, badWeight, badValue, badTask, jobConditions, Sound}
-use Rattle.sheet.specs.Sheet.{layoutConditions, tasks, jobOf, sheetConditions, sheetRefusal}
+use Rattle.sheet.specs.Sheet.{tasks}
 use Rattle.sheet.specs.declared.Job.{Job}
 use Rattle.sheet.specs.declared.Platform.{Platform}
-use Rattle.sheet.proofs.Refusals.{Numbered, first-clear, first-none, first-goes-on, or-fails}
-use Rattle.sheet.proofs.Sections.{count-range, layout-numbered, layout-tasks}
+use Rattle.sheet.proofs.Refusals.{first-clear, or-fails}
+use Rattle.sheet.proofs.Sections.{count-range}
 use Rattle.sheet.proofs.Tables.{some-fails}
 
 pub weight-range : (w : List ℕ) (j : ℕ) → badWeight w j ≡ false → (0 < weightAt w j) × (weightAt w j ≤ costLimit)

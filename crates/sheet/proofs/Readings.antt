@@ -1,10 +1,10 @@
 -- Reading a sheet: one law for each answer, and what an accepted sheet gives. Assumes nothing.
 use Prim.Native.Nat.{ℕ, zero, suc, _<_}
 use mathlib.Core.Path.{_≡_, refl, sym, _∙_, ap}
-use mathlib.Core.List.{List, [], _∷_}
+use mathlib.Core.List.{List}
 use native.Mathlib.Omega.{arith}
 use Rattle.sheet.specs.Refusal.{first}
-use Rattle.sheet.specs.Job.{badCount, jobConditions, Sound}
+use Rattle.sheet.specs.Job.{jobConditions, Sound}
 use Rattle.sheet.specs.Sheet.{tasks, layoutConditions, weightsLength, section, weightsOf, jobOf, sheetOf, sheetConditions, sheetRefusal, answer, numberOf, readingOf}
 use Rattle.sheet.specs.declared.Reading.{Reading}
 use Rattle.sheet.specs.declared.Sheet.{Sheet}

@@ -1,6 +1,6 @@
 -- 'The first condition that holds decides, and a number is given under no other': `first` gives a condition's number where it holds and
 -- none before it does, and 0 only where none holds. Assumes nothing.
-use Prim.Native.Nat.{ℕ, zero, suc, _≤_, _<_}
+use Prim.Native.Nat.{_<_}
 use mathlib.Core.Path.{_≡_, refl}
 use mathlib.Core.Bool.{Bool, true, false, _||_, true≢false}
 use mathlib.Core.List.{List, [], _∷_, _++_}

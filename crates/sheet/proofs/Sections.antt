@@ -1,17 +1,16 @@
 -- What checks 1 to 6 leave of an accepted layout: the task count is in range, and each section lies within the sheet. Assumes nothing.
 use Prim.Native.Nat.{ℕ, zero, suc, _+_, _≤_, _<_}
-use mathlib.Core.Path.{_≡_, refl, sym, _∙_}
-use mathlib.Core.Bool.{Bool, true, false, not, _||_}
+use mathlib.Core.Path.{_≡_}
+use mathlib.Core.Bool.{Bool, true, false, not}
 use mathlib.Core.List.{List, [], _∷_}
 use native.Mathlib.Omega.{arith}
-use native.Mathlib.Nat.{eq-or-lt-of-le}
 use borrow.Author.Tests.{ltb-false, eqb-false, eqb-true, not-false}
 use lib.Dec.{lit<, eqb, ltb}
 use lib.ListN.{length}
 use Rattle.units.specs.Choice.{ite}
-use Rattle.sheet.specs.Refusal.{Condition, first}
+use Rattle.sheet.specs.Refusal.{first}
 use Rattle.sheet.specs.Job.{taskLimit, badCount}
-use Rattle.sheet.specs.Sheet.{tasks, offset, size, kind, place, sectionEnd, misplaced, oneOfEach, platformKind, weightsKind, platformLength, weightsLength, badLength, badForm, badSections, badPlaces, badKinds, layoutConditions}
+use Rattle.sheet.specs.Sheet.{tasks, offset, size, kind, place, sectionEnd, misplaced, oneOfEach, platformKind, weightsKind, platformLength, weightsLength, badSections, badPlaces, badKinds, layoutConditions}
 use Rattle.sheet.proofs.Refusals.{Numbered, first-clear, or-fails}
 
 pub layout-numbered : (s : List ℕ) → Numbered (layoutConditions s)

@@ -6,7 +6,7 @@ use mathlib.Core.List.{List, [], _∷_}
 use lib.Dec.{leb, ltb, eqb}
 use lib.ListN.{getD}
 use Rattle.units.specs.Unit.{up, exponentLimit}
-use Rattle.sheet.specs.Refusal.{Condition, first}
+use Rattle.sheet.specs.Refusal.{Condition}
 use Rattle.sheet.specs.declared.Platform.{Platform}
 use Rattle.sheet.specs.declared.Job.{Job}
 

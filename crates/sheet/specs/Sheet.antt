@@ -1,8 +1,8 @@
 -- The job sheet of document 01: where its fields stand, checks 1 to 8 in their order, and the values that an accepted sheet gives.
 use Prim.Native.Nat.{ℕ, zero, suc, _+_, _*_}
-use mathlib.Core.Bool.{Bool, true, false, not, _||_, _&&_}
+use mathlib.Core.Bool.{Bool, not, _||_, _&&_}
 use mathlib.Core.List.{List, [], _∷_, _++_}
-use lib.Dec.{leb, ltb, eqb}
+use lib.Dec.{ltb, eqb}
 use lib.ListN.{length, take, drop}
 use Rattle.units.specs.Choice.{ite}
 use Rattle.sheet.specs.Refusal.{Condition, first}

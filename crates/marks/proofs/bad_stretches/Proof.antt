@@ -1,13 +1,12 @@
+-- `marks::bad_stretches` meets its contract. The loop's invariant: every stretch that ended is allowed, `weight` is the weight since the last marked position. The measure is what is left of the tasks. Assumes nothing.
 use mathlib.Core.Logic.{⊎-elim}
 use native.Mathlib.Nat.{pos-of-ne-zero}
 use borrow.Author.Tests.{not-true, not-false}
 use Rattle.marks.proofs.Stretches.{Walked, walked-none, walked-range, walked-marked, walked-plain, walked-bad, walked-all, marks-length}
-use Prim.Native.Nat.{ℕ, suc, _+_, _-_, _≤_, _<_}
-use mathlib.Core.Path.{_≡_, refl, sym, _∙_}
-use mathlib.Core.Bool.{false}
+use Prim.Native.Nat.{_-_, _≤_}
+use mathlib.Core.Path.{sym, _∙_}
 use native.Mathlib.Omega.{arith}
 use borrow.Author.Needs.{needs}
-use lib.ListN.{length, getD}
 use Rattle.marks.proofs.bad_stretches.Statement.{statement}
 use Rattle.marks.proofs.bad_stretches.Tie as tie
 

@@ -1,3 +1,4 @@
+-- `marks::from_memory` meets its contract. Each return rewrites the definition by the branch that led there. Assumes nothing.
 use borrow.Author.Tests.{eq-eqb, ne-eqb}
 use Rattle.marks.specs.Recovery.{fromMemory}
 use borrow.Author.Needs.{needs}

@@ -1,3 +1,4 @@
+-- `marks::marks_refusal` meets its contract. Conditions 9 and 10 by the branches, in their order: each return names the first to hold. Assumes nothing.
 use mathlib.Core.Path.{sym, _∙_}
 use Rattle.sheet.specs.Refusal.{first}
 use borrow.Author.Needs.{needs}

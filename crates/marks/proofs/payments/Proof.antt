@@ -1,3 +1,4 @@
+-- `marks::payments` meets its contract. A byte above 3 has the first row; any other has its own. Assumes nothing.
 use mathlib.Core.Path.{refl, sym}
 use lib.ListN.{List·getD-eq-default}
 use Rattle.marks.specs.Pays.{row, table, paysOf}

@@ -1,3 +1,4 @@
+-- `plan::show` meets its contract. A plan's task count is at most 64, so that the part of the text is there. Assumes nothing.
 use native.Mathlib.Omega.{arith}
 use mathlib.Core.Path.{sym}
 use lib.Seq.{length-take-le}

@@ -1,7 +1,7 @@
-use mathlib.Core.Path.{_≡_, refl, sym, _∙_, ap}
+-- `planner::plan` meets its contract. Checks 1 to 8 by the branch, then 11; otherwise the plan of the sheet's job, which those checks make sound. Assumes nothing.
+use mathlib.Core.Path.{sym, _∙_}
 use native.Mathlib.Omega.{arith}
 use Rattle.sheet.proofs.Readings.{sheet-layout, sheet-sound}
-use Rattle.sheet.specs.declared.Job.{Job}
 use Rattle.planner.proofs.Promises.{sheet-answer, short-answer, job-answer}
 use borrow.Author.Needs.{needs}
 use Rattle.planner.proofs.plan.Statement.{statement}

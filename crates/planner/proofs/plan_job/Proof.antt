@@ -1,5 +1,5 @@
-use mathlib.Core.Path.{_≡_, refl, sym, _∙_}
-use native.Mathlib.Omega.{arith}
+-- `planner::plan_job` meets its contract. Least times below the limit are those of a setting, whose marks are copied; at the limit every setting is too slow. Assumes nothing.
+use mathlib.Core.Path.{sym}
 use native.Mathlib.Nat.{le-trans, le-of-eq, lt-of-le-of-lt}
 use Rattle.planner.proofs.Promises.{slow-answer, plan-answer, row-least, row-backs}
 use borrow.Author.Needs.{needs}

@@ -1,3 +1,4 @@
+-- `pricing::arrival` meets its contract. An allowed stretch has growth sums within the caps, and what is carried is below the limit, so that no product wraps. Assumes nothing.
 use native.Mathlib.Omega.{arith}
 use Rattle.pricing.specs.Carry.{arrivalOf}
 use Rattle.pricing.proofs.Products.{factors-bounded}

@@ -1,5 +1,5 @@
+-- `pricing::carry_past` meets its contract. The mark's payments decide, row by row of the table. Assumes nothing.
 use mathlib.Core.Path.{ap, sym, _∙_}
-use mathlib.Core.Bool.{not}
 use native.Mathlib.Omega.{arith}
 use borrow.Author.Tests.{not-true, not-false}
 use Rattle.marks.specs.declared.Pays.{Pays}

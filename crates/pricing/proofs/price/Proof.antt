@@ -1,3 +1,4 @@
+-- `pricing::price` meets its contract. The sheet's refusal decides, then that of the marks, then the time limit; otherwise the time is D(n). Assumes nothing.
 use mathlib.Core.Path.{sym, _∙_}
 use native.Mathlib.Omega.{arith}
 use Rattle.sheet.proofs.Readings.{sheet-layout, sheet-sound}

@@ -1,8 +1,7 @@
-use lib.ListN.{length}
+-- `pricing::setting_time` meets its contract. The loop's invariant: what is carried to the next position is the definition's, unless the limit was passed, and then D(n) passes it too. The measure is what is left of the tasks. Assumes nothing.
 use Rattle.marks.proofs.Stretches.{marks-right, marks-length, marks-range, marks-end}
-use Rattle.pricing.specs.Bounds.{CostsBounded, Carriable}
-use Prim.Native.Nat.{ℕ, _+_, _-_, _≤_, _<_}
-use mathlib.Core.Path.{_≡_, refl, sym, _∙_}
+use Prim.Native.Nat.{_+_, _-_, _≤_, _<_}
+use mathlib.Core.Path.{_≡_, sym}
 use native.Mathlib.Omega.{arith}
 use borrow.Author.Needs.{needs}
 use Rattle.pricing.specs.Price.{none}

@@ -1,3 +1,4 @@
+-- `pricing::stretch_factors` meets its contract. The growth sums at the stretch's exponents; their caps keep each product below 2^64. Assumes nothing.
 use native.Mathlib.Omega.{arith}
 use Rattle.pricing.specs.Carry.{factorsOf}
 use Rattle.pricing.specs.Chain.{silentGrowth, errorGrowth, workTime}

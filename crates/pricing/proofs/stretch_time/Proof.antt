@@ -1,6 +1,6 @@
+-- `pricing::stretch_time` meets its contract. Each part is rounded up by itself; the caps keep each product below 2^64. Assumes nothing.
 use Prim.Native.Nat.{_*_}
 use native.Mathlib.Omega.{arith}
-use Rattle.units.specs.Unit.{unit}
 use Rattle.sheet.specs.Job.{costLimit}
 use Rattle.pricing.specs.Carry.{stretchOf}
 use Rattle.pricing.proofs.Products.{up-cap, stopped-cap, struck-cap, failed-cap}

@@ -1,3 +1,4 @@
+-- `search::rows::offer` meets its contract. Each branch writes the lesser time and its position. Assumes nothing.
 use mathlib.Core.Path.{sym}
 use borrow.Author.Tests.{lt-ltb, le-ltb}
 use lib.Seq.{set-getD}

@@ -1,8 +1,8 @@
-use Prim.Native.Nat.{ℕ, _+_, _-_, _≤_, _<_}
-use mathlib.Core.Path.{_≡_, refl, sym, _∙_}
+-- `search::rows::offer_copies` meets its contract. The loop's invariant: the entries after u and before v have had their offer, and the others are untouched. The measure is what is left of the positions. Assumes nothing.
+use Prim.Native.Nat.{_+_, _-_, _≤_, _<_}
+use mathlib.Core.Path.{_≡_}
 use native.Mathlib.Omega.{arith}
-use borrow.Author.Needs.{needs}
-use lib.ListN.{length, getD}
+use lib.ListN.{getD}
 use Rattle.search.specs.Rows.{Offered}
 use Rattle.search.proofs.Turns.{offered-none, offered-more}
 use Rattle.search.proofs.rows.offer_copies.Statement.{statement}

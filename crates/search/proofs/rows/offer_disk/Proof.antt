@@ -1,4 +1,4 @@
-use Prim.Native.Nat.{_+_, _≤_, _<_}
+-- `search::rows::offer_disk` meets its contract. The row of memory copies from d is the theory's least M, and each v is offered that with the copy. Assumes nothing.
 use native.Mathlib.Omega.{arith}
 use Rattle.setting.proofs.Search.{reach-cap}
 use Rattle.search.proofs.Levels.{offered-agree, disk-arrival}

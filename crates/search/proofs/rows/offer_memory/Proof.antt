@@ -1,11 +1,8 @@
+-- `search::rows::offer_memory` meets its contract. The row of verifications from m is the theory's least Q, and each v is offered that with the copy. Assumes nothing.
 use Rattle.search.proofs.Levels.{memory-arrival}
-use Prim.Native.Nat.{_+_, _≤_, _<_}
-use mathlib.Core.Path.{refl, sym, _∙_, _≡_}
+use mathlib.Core.Path.{refl}
 use native.Mathlib.Omega.{arith}
-use Rattle.setting.specs.Search.{toMemory, leastQ, toVerification}
 use Rattle.setting.proofs.Search.{reach-cap}
-use Rattle.pricing.specs.Price.{none}
-use Rattle.pricing.specs.Chain.{chainOf}
 use Rattle.pricing.proofs.Steps.{disk-range, memory-range}
 use Rattle.search.proofs.Entries.{usable-less}
 use Rattle.search.proofs.Levels.{table-usable, table-row, offered-agree}

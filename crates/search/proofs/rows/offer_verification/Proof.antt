@@ -1,8 +1,9 @@
+-- `search::rows::offer_verification` meets its contract. A pair whose G(y_s + y_f) is 0 is no allowed stretch and offers nothing; any other offers its arrival. Assumes nothing.
 use Prim.Native.Nat.{_+_}
 use mathlib.Core.Path.{_≡_}
 use Rattle.pricing.specs.declared.Factors.{Factors}
 use Rattle.search.specs.Table.{arrivalAt}
-use mathlib.Core.Path.{refl, sym, _∙_, ap}
+use mathlib.Core.Path.{sym, _∙_, ap}
 use native.Mathlib.Omega.{arith}
 use Rattle.search.proofs.Entries.{arrival-none, arrival-some, offers-nothing}
 use borrow.Author.Needs.{needs}

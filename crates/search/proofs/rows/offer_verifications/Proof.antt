@@ -1,9 +1,8 @@
+-- `search::rows::offer_verifications` meets its contract. The loop's invariant: the entries after u and before v have had their offer, and the others are untouched. The measure is what is left of the positions. Assumes nothing.
 use Rattle.search.proofs.Entries.{usable-less}
-use Prim.Native.Nat.{ℕ, _+_, _-_, _≤_, _<_}
-use mathlib.Core.Path.{_≡_, refl, sym, _∙_}
+use Prim.Native.Nat.{_+_, _-_, _≤_, _<_}
+use mathlib.Core.Path.{_≡_}
 use native.Mathlib.Omega.{arith}
-use borrow.Author.Needs.{needs}
-use lib.ListN.{length, getD}
 use Rattle.search.specs.Rows.{Offered}
 use Rattle.search.specs.Table.{arrivalAt}
 use Rattle.search.proofs.Turns.{offered-none, offered-more}

@@ -1,10 +1,10 @@
+-- `search::rows::verification_row` meets its contract. The loop's invariant: the row has had the offers of the positions before u. The measure is what is left of the positions. Assumes nothing.
 use Rattle.search.specs.Rows.{positions}
-use Prim.Native.Nat.{ℕ, _+_, _-_, _≤_, _<_}
-use mathlib.Core.Path.{_≡_, refl, sym, _∙_, ap}
+use Prim.Native.Nat.{ℕ, _-_, _≤_}
+use mathlib.Core.Path.{refl, sym, _∙_}
 use mathlib.Core.Logic.{⊎-elim}
 use native.Mathlib.Omega.{arith}
-use borrow.Author.Needs.{needs}
-use lib.ListN.{length, getD, length-replicate}
+use lib.ListN.{length-replicate}
 use Rattle.pricing.specs.Price.{none}
 use Rattle.search.specs.Table.{arrivalAt}
 use Rattle.search.proofs.Turns.{Turn, turn-first, turn-cap, turn-none, turn-offers, turn-last}

@@ -1,3 +1,4 @@
+-- `search::table::entry` meets its contract. Three factors read at three places of the table. Assumes nothing.
 use mathlib.Core.Path.{refl}
 use Rattle.search.specs.Table.{entryOf}
 use borrow.Author.Needs.{needs}

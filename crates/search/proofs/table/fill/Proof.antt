@@ -1,8 +1,8 @@
-use Prim.Native.Nat.{ℕ, _+_, _-_, _*_, _≤_, _<_}
-use mathlib.Core.Path.{_≡_, refl, sym, _∙_}
+-- `search::table::fill` meets its contract. The loop's invariant: the pairs before p that are stretches have their factors. The measure is what is left of the pairs. Assumes nothing.
+use Prim.Native.Nat.{_-_, _*_, _≤_}
+use mathlib.Core.Path.{_≡_, sym, _∙_}
 use native.Mathlib.Omega.{arith}
 use borrow.Author.Needs.{needs}
-use lib.ListN.{length, getD}
 use Rattle.search.specs.Rows.{positions}
 use Rattle.search.specs.Table.{Tabled, difference}
 use Rattle.search.proofs.Entries.{tabled-none, tabled-weights, totals-between, totals-growing}

@@ -1,6 +1,6 @@
-use mathlib.Core.Path.{refl, sym, _∙_}
+-- `search::table::fill_pair` meets its contract. A pair that is no stretch of the job is left; any other has its factors written at its own place. Assumes nothing.
 use native.Mathlib.Omega.{arith}
-use Prim.Native.Nat.{_/_, _%_}
+use Prim.Native.Nat.{_%_}
 use Rattle.search.proofs.Entries.{tabled-skip, tabled-more}
 use borrow.Author.Needs.{needs}
 use Rattle.search.proofs.table.fill_pair.Statement.{statement}

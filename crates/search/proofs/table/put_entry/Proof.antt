@@ -1,3 +1,4 @@
+-- `search::table::put_entry` meets its contract. Three factors at three places of the table; no other place is written. Assumes nothing.
 use lib.ListN.{length-set}
 use native.Mathlib.Omega.{arith}
 use borrow.Author.Needs.{needs}

@@ -1,7 +1,7 @@
-use lib.ListN.{getD}
+-- `search::table::totals` meets its contract. The loop's invariant: the entry at v is the weight up to v. The measure is what is left of the tasks. Assumes nothing.
 use Rattle.sheet.proofs.Ranges.{total-more}
-use Prim.Native.Nat.{ℕ, _+_, _-_, _≤_, _<_}
-use mathlib.Core.Path.{_≡_, refl, sym, _∙_}
+use Prim.Native.Nat.{_+_, _-_, _≤_}
+use mathlib.Core.Path.{_≡_, refl}
 use native.Mathlib.Omega.{arith}
 use borrow.Author.Needs.{needs}
 use Rattle.sheet.specs.Job.{total}

@@ -1,5 +1,5 @@
-use Prim.Native.Nat.{_+_, _≤_, _<_}
-use mathlib.Core.Path.{refl, sym, _∙_, _≡_}
+-- `search::walk::at_copy` meets its contract. The memory row names m, and the row of verifications from m the positions before. Assumes nothing.
+use mathlib.Core.Path.{refl}
 use native.Mathlib.Omega.{arith}
 use lib.ListN.{getD}
 use Rattle.pricing.proofs.Steps.{disk-range, memory-range}

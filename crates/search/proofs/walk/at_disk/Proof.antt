@@ -1,5 +1,6 @@
-use Prim.Native.Nat.{_≤_, _<_}
-use mathlib.Core.Path.{refl, sym, _∙_, _≡_}
+-- `search::walk::at_disk` meets its contract. The disk row names d, and the memory row from d up to v is filled anew. Assumes nothing.
+use Prim.Native.Nat.{_≤_}
+use mathlib.Core.Path.{refl, _∙_}
 use native.Mathlib.Omega.{arith}
 use lib.Dec.{lit≤}
 use Rattle.search.proofs.Backs.{disk-before, disk-range}

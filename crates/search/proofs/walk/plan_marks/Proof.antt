@@ -1,7 +1,6 @@
-use Prim.Native.Nat.{ℕ, _+_, _-_, _≤_, _<_}
-use mathlib.Core.Path.{_≡_, refl, sym, _∙_}
+-- `search::walk::plan_marks` meets its contract. The loop's invariant: the marks after w.v are the plan's, and w is the place of the theory's walk there. The measure is w.v. Assumes nothing.
+use Prim.Native.Nat.{_-_}
 use native.Mathlib.Omega.{arith}
-use borrow.Author.Needs.{needs}
 use Rattle.search.proofs.Backs.{Placed, placed-first, placed-next, placed-last}
 use Rattle.search.proofs.walk.plan_marks.Statement.{statement}
 use Rattle.search.proofs.walk.plan_marks.Tie as tie

@@ -1,5 +1,6 @@
-use Prim.Native.Nat.{_≤_, _<_}
-use mathlib.Core.Path.{refl, sym, _∙_, _≡_}
+-- `search::walk::step_back` meets its contract. The branches are the theory's: back to a verification, to a memory copy, to a disk copy, or to the start. Assumes nothing.
+use Prim.Native.Nat.{_≤_}
+use mathlib.Core.Path.{refl}
 use native.Mathlib.Omega.{arith}
 use lib.Dec.{lit≤}
 use Rattle.search.proofs.Backs.{filled-less, before-mark, before-memory, before-disk, before-start}

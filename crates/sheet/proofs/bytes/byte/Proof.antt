@@ -1,4 +1,4 @@
-use mathlib.Core.Path.{refl}
+-- `sheet::bytes::byte` meets its contract. The byte at that place, or 0 past the end. Assumes nothing.
 use lib.ListN.{List·getD-eq-default}
 use lib.Dec.{lit<}
 use mathlib.Core.Path.{sym}

@@ -1,4 +1,4 @@
-use mathlib.Core.Path.{refl}
+-- `sheet::layout::bad_count` meets its contract. The code is the definition of condition 3. Assumes nothing.
 use borrow.Author.Tests.{eq-eqb, ne-eqb}
 use Rattle.sheet.specs.Job.{badCount}
 use Rattle.sheet.proofs.layout.bad_count.Statement.{statement}

@@ -1,3 +1,4 @@
+-- `sheet::layout::bad_form` meets its contract. The code is the definition of condition 2. Assumes nothing.
 use mathlib.Core.Path.{refl}
 use borrow.Author.Tests.{eq-eqb, ne-eqb}
 use Rattle.sheet.specs.Sheet.{badForm}

@@ -1,9 +1,6 @@
-use mathlib.Core.Path.{ap}
-use mathlib.Core.Bool.{not}
-use lib.Dec.{eqb}
+-- `sheet::layout::bad_kinds` meets its contract. Each return rewrites the definition of condition 6 by the branch that led there. Assumes nothing.
 use borrow.Author.Tests.{eq-eqb, ne-eqb, not-true, not-false}
 use Rattle.sheet.specs.Sheet.{badKinds}
-use mathlib.Core.Path.{refl}
 use borrow.Author.Needs.{needs}
 use Rattle.sheet.proofs.layout.bad_kinds.Statement.{statement}
 use Rattle.sheet.proofs.layout.bad_kinds.Tie as tie

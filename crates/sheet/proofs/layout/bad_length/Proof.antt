@@ -1,4 +1,4 @@
-use mathlib.Core.Path.{refl}
+-- `sheet::layout::bad_length` meets its contract. The code is the definition of condition 1. Assumes nothing.
 use borrow.Author.Tests.{lt-ltb, le-ltb}
 use Rattle.sheet.specs.Sheet.{badLength}
 use Rattle.sheet.proofs.layout.bad_length.Statement.{statement}

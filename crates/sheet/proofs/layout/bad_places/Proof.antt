@@ -1,5 +1,5 @@
+-- `sheet::layout::bad_places` meets its contract. The two sections in their order: each return rewrites the definition of condition 5 by the tests before it. Assumes nothing.
 use Rattle.sheet.specs.Sheet.{badPlaces}
-use mathlib.Core.Path.{refl}
 use borrow.Author.Needs.{needs}
 use Rattle.sheet.proofs.layout.bad_places.Statement.{statement}
 use Rattle.sheet.proofs.layout.bad_places.Tie as tie

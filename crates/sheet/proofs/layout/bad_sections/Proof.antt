@@ -1,7 +1,7 @@
+-- `sheet::layout::bad_sections` meets its contract. The code is the definition of condition 4. Assumes nothing.
 use mathlib.Core.Path.{ap}
 use mathlib.Core.Bool.{not}
 use lib.Dec.{eqb}
-use mathlib.Core.Path.{refl}
 use Rattle.sheet.specs.Sheet.{badSections}
 use borrow.Author.Needs.{needs}
 use Rattle.sheet.proofs.layout.bad_sections.Statement.{statement}

@@ -1,4 +1,4 @@
-use mathlib.Core.Path.{refl}
+-- `sheet::layout::is_misplaced` meets its contract. Each return rewrites the definition by the tests before it; the sum of two 32-bit numbers cannot wrap. Assumes nothing.
 use borrow.Author.Tests.{eq-eqb, ne-eqb, lt-ltb, le-ltb}
 use Rattle.sheet.specs.Sheet.{misplaced}
 use borrow.Author.Needs.{needs}

@@ -1,4 +1,4 @@
-use mathlib.Core.Path.{refl}
+-- `sheet::layout::is_one_of_each` meets its contract. Each return rewrites the definition by the branch that led there. Assumes nothing.
 use borrow.Author.Tests.{eq-eqb, ne-eqb}
 use mathlib.Core.Bool.{or-false}
 use Rattle.sheet.specs.Sheet.{oneOfEach}

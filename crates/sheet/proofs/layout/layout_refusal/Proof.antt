@@ -1,5 +1,5 @@
+-- `sheet::layout::layout_refusal` meets its contract. Conditions 1 to 6 by the branches, in their order: each return names the first to hold. Assumes nothing.
 use Rattle.sheet.specs.Refusal.{first}
-use mathlib.Core.Path.{refl}
 use borrow.Author.Needs.{needs}
 use Rattle.sheet.proofs.layout.layout_refusal.Statement.{statement}
 use Rattle.sheet.proofs.layout.layout_refusal.Tie as tie

@@ -1,3 +1,4 @@
+-- `sheet::layout::lookup` meets its contract. A stretch that is found lies within the sheet, so the part from its start to its end is the caller's own; otherwise both are 0. Assumes nothing.
 use Rattle.sheet.proofs.Lookups.{part-is}
 use mathlib.Core.Path.{refl}
 use native.Mathlib.Omega.{arith}

@@ -1,3 +1,4 @@
+-- `sheet::layout::lookup_end` meets its contract. The lookup's number by the branch: the end of the stretch found, or 0. Assumes nothing.
 use mathlib.Core.Path.{_∙_, sym}
 use native.Mathlib.Omega.{arith}
 use Rattle.sheet.proofs.Lookups.{start-refused, size-refused, end-found}

@@ -1,6 +1,7 @@
+-- `sheet::layout::lookup_refusal` meets its contract. The layout's refusal decides, then whether the kind is one of the two. Assumes nothing.
 use native.Mathlib.Omega.{arith}
 use mathlib.Core.Path.{_∙_, sym}
-use mathlib.Core.Bool.{true, false, or-true}
+use mathlib.Core.Bool.{true, false}
 use borrow.Author.Tests.{eq-eqb, ne-eqb}
 use Rattle.sheet.proofs.Lookups.{lookup-refused, lookup-of}
 use borrow.Author.Needs.{needs}

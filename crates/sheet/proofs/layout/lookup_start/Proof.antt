@@ -1,3 +1,4 @@
+-- `sheet::layout::lookup_start` meets its contract. The lookup's number by the branch: the start of the stretch found, or 0. Assumes nothing.
 use mathlib.Core.Path.{_∙_, sym}
 use Rattle.sheet.proofs.Lookups.{start-refused, start-found}
 use borrow.Author.Needs.{needs}

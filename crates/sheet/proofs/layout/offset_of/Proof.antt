@@ -1,3 +1,4 @@
+-- `sheet::layout::offset_of` meets its contract. The field at its place in the entry. Assumes nothing.
 use Rattle.sheet.specs.Sheet.{offset}
 use borrow.Author.Needs.{needs}
 use Rattle.sheet.proofs.layout.offset_of.Statement.{statement}

@@ -1,3 +1,4 @@
+-- `sheet::layout::place_of` meets its contract. Each return rewrites the definition by the branch that led there. Assumes nothing.
 use mathlib.Core.Path.{refl}
 use borrow.Author.Tests.{eq-eqb, ne-eqb}
 use lib.Dec.{lit<}

@@ -1,3 +1,4 @@
+-- `sheet::layout::section_end` meets its contract. The start and the size of the section, in 64 bits. Assumes nothing.
 use Rattle.sheet.specs.Sheet.{sectionEnd}
 use borrow.Author.Needs.{needs}
 use Rattle.sheet.proofs.layout.section_end.Statement.{statement}

@@ -1,3 +1,4 @@
+-- `sheet::layout::section_of` meets its contract. A layout that passes checks 1 to 6 has each section within the sheet, so the part is the caller's own. Assumes nothing.
 use Rattle.sheet.proofs.Lookups.{part-is}
 use native.Mathlib.Omega.{arith}
 use Rattle.sheet.specs.Sheet.{section, sectionEnd}

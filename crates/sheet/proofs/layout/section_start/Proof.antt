@@ -1,3 +1,4 @@
+-- `sheet::layout::section_start` meets its contract. The offset of the entry that is asked for. Assumes nothing.
 use borrow.Author.Needs.{needs}
 use Rattle.sheet.proofs.layout.section_start.Statement.{statement}
 use Rattle.sheet.proofs.layout.section_start.Tie as tie

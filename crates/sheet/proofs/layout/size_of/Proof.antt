@@ -1,3 +1,4 @@
+-- `sheet::layout::size_of` meets its contract. The field at its place in the entry. Assumes nothing.
 use Rattle.sheet.specs.Sheet.{size}
 use borrow.Author.Needs.{needs}
 use Rattle.sheet.proofs.layout.size_of.Statement.{statement}

@@ -1,3 +1,4 @@
+-- `sheet::layout::task_count` meets its contract. The byte at its place in the header. Assumes nothing.
 use Rattle.sheet.specs.Sheet.{tasks}
 use borrow.Author.Needs.{needs}
 use Rattle.sheet.proofs.layout.task_count.Statement.{statement}

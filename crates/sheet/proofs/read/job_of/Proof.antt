@@ -1,3 +1,4 @@
+-- `sheet::read::job_of` meets its contract. The task count and the two sections, each by the contract that reads it. Assumes nothing.
 use native.Mathlib.Omega.{arith}
 use Rattle.sheet.specs.Sheet.{jobOf}
 use Rattle.sheet.proofs.Sections.{layout-tasks}

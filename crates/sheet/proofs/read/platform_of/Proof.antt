@@ -1,3 +1,4 @@
+-- `sheet::read::platform_of` meets its contract. Seven fields of the platform section, each at its place. Assumes nothing.
 use Rattle.sheet.specs.Sheet.{platformOf}
 use borrow.Author.Needs.{needs}
 use Rattle.sheet.proofs.read.platform_of.Statement.{statement}

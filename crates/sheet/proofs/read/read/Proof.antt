@@ -1,7 +1,8 @@
+-- `sheet::read::read` meets its contract. The sheet's refusal decides between the two cases, and the values are those of its job. Assumes nothing.
 use mathlib.Core.Path.{sym, _∙_, ap}
 use native.Mathlib.Omega.{arith}
 use Rattle.sheet.specs.Sheet.{sheetOf}
-use Rattle.sheet.specs.declared.Reading.the-variants.{Refused, Accepted}
+use Rattle.sheet.specs.declared.Reading.the-variants.{Refused}
 use Rattle.sheet.proofs.Readings.{sheet-layout, reading-refused, reading-accepted, reading-told}
 use borrow.Author.Needs.{needs}
 use Rattle.sheet.proofs.read.read.Statement.{statement}

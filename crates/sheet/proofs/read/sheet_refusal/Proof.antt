@@ -1,3 +1,4 @@
+-- `sheet::read::sheet_refusal` meets its contract. The layout's refusal decides, then that of the values. Assumes nothing.
 use mathlib.Core.Path.{sym, _∙_}
 use native.Mathlib.Omega.{arith}
 use Rattle.sheet.specs.Sheet.{jobOf}

@@ -1,11 +1,9 @@
-use Prim.Native.Nat.{ℕ, _+_, _-_, _≤_, _<_, _*_}
-use borrow.Author.Tests.{lt-ltb, le-ltb}
+-- `sheet::read::weights_of` meets its contract. The loop's invariant: the entries passed are the sheet's weights, and 0 stands in the others. The measure is what is left of the tasks. Assumes nothing.
+use Prim.Native.Nat.{_-_, _≤_}
 use Rattle.sheet.proofs.Tables.{weights-more}
-use mathlib.Core.Path.{_≡_, refl, sym, _∙_}
+use mathlib.Core.Path.{_≡_, refl}
 use native.Mathlib.Omega.{arith}
 use borrow.Author.Needs.{needs}
-use borrow.Author.Count.{falls}
-use lib.Dec.{ltb}
 use Rattle.sheet.specs.Sheet.{weightsOf, tabulate}
 use Rattle.sheet.proofs.read.weights_of.Statement.{statement}
 use Rattle.sheet.proofs.read.weights_of.Tie as tie

@@ -1,3 +1,4 @@
+-- `sheet::values::bad_cost` meets its contract. The five costs in their order: each return rewrites the definition by the tests before it. Assumes nothing.
 use Rattle.sheet.proofs.Ranges.{cost-decides}
 use borrow.Author.Tests.{lt-ltb, le-ltb}
 use Rattle.sheet.specs.Job.{badCost}

@@ -1,6 +1,6 @@
-use borrow.Author.Tests.{not-true, not-false}
+-- `sheet::values::bad_task` meets its contract. The loop's invariant: no task passed is refused alone. The measure is what is left of the tasks. Assumes nothing.
 use mathlib.Core.Path.{ap}
-use Prim.Native.Nat.{ℕ, _+_, _-_, _*_, _≤_, _<_, _^_}
+use Prim.Native.Nat.{_-_, _≤_}
 use mathlib.Core.Path.{_≡_, refl, sym, _∙_}
 use mathlib.Core.Bool.{false, not}
 use native.Mathlib.Omega.{arith}

@@ -1,3 +1,4 @@
+-- `sheet::values::bad_value` meets its contract. The costs decide first, then the weights. Assumes nothing.
 use Rattle.sheet.specs.Job.{badValue}
 use borrow.Author.Needs.{needs}
 use Rattle.sheet.proofs.values.bad_value.Statement.{statement}

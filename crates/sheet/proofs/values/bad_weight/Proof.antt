@@ -1,3 +1,4 @@
+-- `sheet::values::bad_weight` meets its contract. Each return rewrites the test by the branch that led there. Assumes nothing.
 use borrow.Author.Tests.{eq-eqb, ne-eqb}
 use Rattle.sheet.proofs.values.bad_weight.Statement.{statement}
 use Rattle.sheet.proofs.values.bad_weight.Tie as tie

@@ -1,9 +1,9 @@
+-- `sheet::values::bad_weights` meets its contract. The loop's invariant: the weights passed are in range, and `sum` is their total, so that 64 of them cannot wrap. The measure is what is left of the tasks. Assumes nothing.
 use Rattle.sheet.proofs.Ranges.{weight-range, total-more}
-use Prim.Native.Nat.{ℕ, _+_, _-_, _*_, _≤_, _<_, _^_}
+use Prim.Native.Nat.{_-_, _*_, _≤_}
 use mathlib.Core.Path.{_≡_, refl, sym, _∙_}
 use mathlib.Core.Bool.{false}
 use native.Mathlib.Omega.{arith}
-use native.Mathlib.Numerals.{add-one}
 use borrow.Author.Needs.{needs}
 use Rattle.sheet.specs.Job.{costLimit, some, total, badWeight}
 use Rattle.sheet.proofs.Tables.{some-holds, some-more}

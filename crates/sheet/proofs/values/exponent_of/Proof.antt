@@ -1,8 +1,7 @@
-use mathlib.Core.Path.{_∙_}
+-- `sheet::values::exponent_of` meets its contract. A rate of 32 bits and a weight in range have a product below 64 bits, which is rounded up. Assumes nothing.
 use Rattle.units.specs.Unit.{up}
 use Rattle.sheet.proofs.Ranges.{product-range}
 use native.Mathlib.Omega.{arith}
-use native.Mathlib.Nat.{mul-le-mul}
 use borrow.Author.Needs.{needs}
 use Rattle.sheet.proofs.values.exponent_of.Statement.{statement}
 use Rattle.sheet.proofs.values.exponent_of.Tie as tie

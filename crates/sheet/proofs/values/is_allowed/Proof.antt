@@ -1,3 +1,4 @@
+-- `sheet::values::is_allowed` meets its contract. The two exponents, then the comparison of their sum with the limit. Assumes nothing.
 use Rattle.sheet.specs.Job.{isAllowed}
 use borrow.Author.Needs.{needs}
 use Rattle.sheet.proofs.values.is_allowed.Statement.{statement}

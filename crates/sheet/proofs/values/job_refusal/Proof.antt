@@ -1,3 +1,4 @@
+-- `sheet::values::job_refusal` meets its contract. Checks 7 and 8 by the branches, in their order: each return names the first to hold. Assumes nothing.
 use mathlib.Core.Path.{sym, _∙_}
 use Rattle.sheet.specs.Refusal.{first}
 use borrow.Author.Needs.{needs}
