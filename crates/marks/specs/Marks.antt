@@ -13,7 +13,8 @@ use Rattle.sheet.specs.declared.Job.{Job}
 abbrev pub highestMark : ℕ
 highestMark = 3
 
--- the marks of a list by position: task v, from 1 on, has the mark at v - 1. No definition asks for the mark of position 0, the start
+-- the marks of a list by position: task v, from 1 on, has the mark at v - 1.
+-- Position 0, the start, has no mark: no time and no accepted event depends on what stands here for it
 abbrev pub marksOf : List ℕ → Marks
 marksOf l v = getD l (v - 1) 0
 

@@ -1,4 +1,4 @@
--- A run by its history: where it stands and what it has counted, from its list of events alone.
+-- A run by its history: where it stands and what it has counted, from its job, its marks and its list of events.
 -- The copies are kept explicitly: the position last saved in memory, and the position last saved on disk.
 use Prim.Native.Nat.{ℕ, _+_}
 use mathlib.Core.List.{List, [], _∷_}

@@ -1,4 +1,4 @@
--- What 21 leaves of a state that it does not turn down, as facts.
+-- What an event's arithmetic needs of a state that 21 does not turn down, as facts.
 use Prim.Native.Nat.{_≤_, _<_}
 use mathlib.Core.Path.{_≡_}
 use mathlib.Core.Bool.{true}

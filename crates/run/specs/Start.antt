@@ -19,11 +19,11 @@ use Rattle.run.specs.declared.Started.{Started}
 abbrev pub beginning : Place
 beginning = record { position = 0; awaiting = false; sums = record { kept = 0; redone = 0; verify = 0; saves = 0; recovery = 0 } }
 
--- the marks as a state holds them: 0 past task n
+-- the marks as a state holds them: 0 past the last of them, which is that of task n once 9 is passed
 unfoldable pub entries : List ℕ → List ℕ
 entries marks = tabulate positionLimit (λ j. getD marks j 0)
 
--- a fresh run stands before task 1 with all five sums at 0
+-- a fresh run stands before task 1 with all five sums at 0; the entries past task n are those given, and `start` gives 0
 unfoldable pub fresh : Job → List ℕ → Run
 fresh job marks = record { job = job; marks = marks; place = beginning }
 

@@ -7,7 +7,7 @@ ghost use Rattle.run.specs.Start.{entries, refusedStart};
 use crate::Run;
 use crate::Started;
 
-// The marks as a state holds them: 0 past the last task.
+// The marks as a state holds them: 0 past the last of them.
 pub fn entries_of(marks: &[u8]) -> [u8; 64]
     requires { ⌜ length (now marks) ≤ positionLimit ⌝ }
     ensures { λ r. ⌜ r ≡ entries (now (marks .entry)) ⌝ }

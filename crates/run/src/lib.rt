@@ -79,7 +79,7 @@ impl Run {
 
     pub const MAX_TOTAL: u64 = 1 << 40;
 
-    // A fresh run stands before task 1 with all five sums at 0.
+    // A fresh run stands before task 1 with all five sums at 0. Entries past task n are those given.
     pub fn fresh(job: Job, marks: [u8; 64]) -> Run
         ensures { λ r. ⌜ r ≡ fresh job marks ⌝ }
     {

@@ -1,11 +1,11 @@
--- Reading a sheet: one law for each answer, and what an accepted sheet gives. Assumes nothing.
+-- Reading a sheet: how its refusal comes from the checks, and what an accepted sheet gives. Assumes nothing.
 use Prim.Native.Nat.{ℕ, zero, suc, _<_}
 use mathlib.Core.Path.{_≡_, refl, sym, _∙_, ap}
 use mathlib.Core.List.{List}
 use native.Mathlib.Omega.{arith}
 use Rattle.sheet.specs.Refusal.{first}
 use Rattle.sheet.specs.Job.{jobConditions, Sound}
-use Rattle.sheet.specs.Sheet.{tasks, layoutConditions, weightsLength, section, weightsOf, jobOf, sheetOf, sheetConditions, sheetRefusal, answer, numberOf, readingOf}
+use Rattle.sheet.specs.Sheet.{tasks, layoutConditions, weightsLength, section, weightsOf, jobOf, sheetOf, sheetConditions, sheetRefusal}
 use Rattle.sheet.specs.declared.Reading.{Reading}
 use Rattle.sheet.specs.declared.Sheet.{Sheet}
 use Rattle.sheet.specs.declared.Reading.the-variants.{Accepted, Refused}
@@ -32,32 +32,6 @@ module _ (s : List ℕ) where
   pub sheet-sound : sheetRefusal s ≡ 0 → Sound (jobOf s)
   unfolding jobOf
   sheet-sound e = job-sound (jobOf s) (layout-count s (sheet-layout e)) (sheet-goes-on (sheet-layout e) ∙ e)
-
-  refused : (r : ℕ) (v : Sheet) → 0 < r → Refused r ≡ answer r v
-  refused zero v p = absurd (omega arith)
-  refused (suc r) v p = refl
-
-  pub reading-refused : 0 < sheetRefusal s → Refused (sheetRefusal s) ≡ readingOf s
-  unfolding readingOf
-  reading-refused p = refused (sheetRefusal s) (sheetOf s) p
-
-  pub reading-accepted : sheetRefusal s ≡ 0 → Accepted (sheetOf s) ≡ readingOf s
-  unfolding readingOf
-  reading-accepted e = rw e
-
-  number : (r : ℕ) (v : Sheet) → numberOf (answer r v) ≡ r
-  unfolding numberOf
-  number zero v = refl
-  number (suc r) v = refl
-
-  -- the number of the answer is that of the first check that holds, and 0 where none does
-  pub reading-number : numberOf (readingOf s) ≡ sheetRefusal s
-  unfolding readingOf
-  reading-number = number (sheetRefusal s) (sheetOf s)
-
-  -- the answer, with its number
-  pub reading-told : {r : Reading} → r ≡ readingOf s → (r ≡ readingOf s) × (numberOf r ≡ sheetRefusal s)
-  reading-told e = (e, ap numberOf e ∙ reading-number)
 
   -- the values in numbers alone are those of the job: its weights are the fields from where their section starts
   pub sheet-job : sheetRefusal s ≡ 0 → jobOf s ≡ record {

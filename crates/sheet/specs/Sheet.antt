@@ -1,5 +1,6 @@
 -- The job sheet of document 01: where its fields stand, checks 1 to 8 in their order, and the values that an accepted sheet gives.
-use Prim.Native.Nat.{ℕ, zero, suc, _+_, _*_}
+use Prim.Native.Nat.{ℕ, zero, suc, _+_, _*_, _<_}
+use mathlib.Core.Path.{_≡_}
 use mathlib.Core.Bool.{Bool, not, _||_, _&&_}
 use mathlib.Core.List.{List, [], _∷_, _++_}
 use lib.Dec.{ltb, eqb}
@@ -44,12 +45,19 @@ weightsLength n = 1 + fieldLength * n
 unfoldable pub tasks : List ℕ → ℕ
 tasks s = byteAt s 1
 
--- the two pairs of offset and length, i from 0
+-- the two pairs of offset and length begin at byte 4, each of two fields
+abbrev pub pairsStart : ℕ
+pairsStart = 4
+
+abbrev pub pairLength : ℕ
+pairLength = 8
+
+-- the offset and the length of section i, from 0
 unfoldable pub offset : List ℕ → ℕ → ℕ
-offset s i = fieldAt s (4 + 8 * i)
+offset s i = fieldAt s (pairsStart + pairLength * i)
 
 unfoldable pub size : List ℕ → ℕ → ℕ
-size s i = fieldAt s (8 + 8 * i)
+size s i = fieldAt s (pairsStart + fieldLength + pairLength * i)
 
 -- a section's first byte is its kind
 unfoldable pub kind : List ℕ → ℕ → ℕ
@@ -112,17 +120,21 @@ layoutConditions s =
     ∷ record { number = 6; holds = badKinds s }
     ∷ []
 
+-- field i of a section, from 0: they follow its kind byte
+abbrev pub sectionField : List ℕ → ℕ → ℕ
+sectionField p i = fieldAt p (1 + fieldLength * i)
+
 -- the seven fields of a platform section, in 01's order
 unfoldable pub platformOf : List ℕ → Platform
 platformOf p =
     record {
-      failstop = fieldAt p 1;
-      silent = fieldAt p 5;
-      cd = fieldAt p 9;
-      cm = fieldAt p 13;
-      v = fieldAt p 17;
-      rd = fieldAt p 21;
-      rm = fieldAt p 25;
+      failstop = sectionField p 0;
+      silent = sectionField p 1;
+      cd = sectionField p 2;
+      cm = sectionField p 3;
+      v = sectionField p 4;
+      rd = sectionField p 5;
+      rm = sectionField p 6;
     }
 
 -- the list of f at 0 to n - 1
@@ -132,7 +144,7 @@ tabulate (suc n) f = tabulate n f ++ (f n ∷ [])
 
 -- the weights of a weights section of n tasks, in order, and 0 past task n
 unfoldable pub weightsOf : List ℕ → ℕ → List ℕ
-weightsOf p n = tabulate taskLimit (λ j. ite (ltb j n) (fieldAt p (1 + fieldLength * j)) 0)
+weightsOf p n = tabulate taskLimit (λ j. ite (ltb j n) (sectionField p j) 0)
 
 -- the values of a sheet that passes checks 1 to 6
 unfoldable pub jobOf : List ℕ → Job
@@ -160,16 +172,11 @@ sheetOf s =
       weights = offset s (place s weightsKind);
     }
 
--- the number of an answer, 0 for an accepted sheet
-unfoldable pub numberOf : Reading → ℕ
-numberOf (Accepted v) = 0
-numberOf (Refused r) = r
+-- each case of an answer: number 0 and the values, or the number of the refusal, which is never 0
+unfoldable pub Says : Reading → (number : ℕ) → (values : Sheet) → Type 0
+Says (Accepted v) number values = (number ≡ 0) × (v ≡ values)
+Says (Refused r) number values = (number ≡ r) × (0 < r)
 
--- an answer: the values, or the one number
-abbrev pub answer : ℕ → Sheet → Reading
-answer zero v = Accepted v
-answer (suc r) v = Refused (suc r)
-
--- what reading a sheet gives
-unfoldable pub readingOf : List ℕ → Reading
-readingOf s = answer (sheetRefusal s) (sheetOf s)
+-- what reading the sheet s gives: its values, or the number of the first of checks 1 to 8 that holds
+abbrev pub Reads : List ℕ → Reading → Type 0
+Reads s r = Says r (sheetRefusal s) (sheetOf s)

@@ -3,7 +3,7 @@ ghost use mathlib.Core.Path.{_≡_};
 ghost use Prim.Native.Nat.{_≤_};
 ghost use Rattle.sheet.specs.Refusal.{first};
 ghost use Rattle.sheet.specs.Job.{taskLimit};
-ghost use Rattle.sheet.specs.Sheet.{platformOf, weightsOf, layoutConditions, jobOf, sheetRefusal, numberOf, readingOf};
+ghost use Rattle.sheet.specs.Sheet.{platformOf, weightsOf, layoutConditions, jobOf, sheetRefusal, Reads};
 use crate::Job;
 use crate::Platform;
 use crate::Reading;
@@ -72,7 +72,7 @@ pub fn sheet_refusal(s: &[u8]) -> u64
 
 // The values of a sheet, or the one number of its refusal.
 pub fn read(s: &[u8]) -> Reading
-    ensures { λ r. ⌜ (r ≡ readingOf (now (s .entry))) × (numberOf r ≡ sheetRefusal (now (s .entry))) ⌝ }
+    ensures { λ r. ⌜ Reads (now (s .entry)) r ⌝ }
 {
     let number = sheet_refusal(s);
     if number != 0 {

@@ -1,9 +1,8 @@
 -- `sheet::read::read` meets its contract. The sheet's refusal decides between the two cases, and the values are those of its job. Assumes nothing.
 use mathlib.Core.Path.{sym, _∙_, ap}
 use native.Mathlib.Omega.{arith}
-use Rattle.sheet.specs.Sheet.{sheetOf}
-use Rattle.sheet.specs.declared.Reading.the-variants.{Refused}
-use Rattle.sheet.proofs.Readings.{sheet-layout, reading-refused, reading-accepted, reading-told}
+use Rattle.sheet.specs.Sheet.{sheetOf, Says}
+use Rattle.sheet.proofs.Readings.{sheet-layout}
 use borrow.Author.Needs.{needs}
 use Rattle.sheet.proofs.read.read.Statement.{statement}
 use Rattle.sheet.proofs.read.read.Tie as tie
@@ -12,7 +11,8 @@ sheet-refusal-requires : tie.Need-sheet-refusal-requires
 sheet-refusal-requires c κs = search needs
 
 returns : tie.Need-returns
-returns c = reading-told _ (ap Refused (c .before .sheet-refusal .ensures) ∙ reading-refused _ (omega (arith, c .before .sheet-refusal .ensures)))
+unfolding Says
+returns c = (sym (c .before .sheet-refusal .ensures), omega arith)
 
 task-count-requires : tie.Need-task-count-requires
 task-count-requires c κs = search needs
@@ -27,8 +27,11 @@ section-start-requires : tie.Need-section-start-requires
 section-start-requires c κs = search needs
 
 returns-2 : tie.Need-returns-2
-unfolding sheetOf
-returns-2 c = rw (c .before .before .before .task-count .ensures .0, c .before .platform-of .ensures, c .before .before .section-of .ensures, c .section-start .ensures .0) (reading-told _ (reading-accepted _ (sym (c .before .before .before .before .before .sheet-refusal .ensures) ∙ c .before .before .before .before .if1 .left)))
+unfolding sheetOf Says
+returns-2 c =
+    ( sym (c .before .before .before .before .before .sheet-refusal .ensures) ∙ c .before .before .before .before .if1 .left
+    , rw (c .before .before .before .task-count .ensures .0, c .before .platform-of .ensures, c .before .before .section-of .ensures, c .section-start .ensures .0)
+    )
 
 pub read-spec : {M : Type 1} → statement M
 read-spec =
