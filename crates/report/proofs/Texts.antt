@@ -1,16 +1,19 @@
--- One element more of a list that a loop fills from the front. Assumes nothing.
+-- Laws of texts of digits, and of a list that a loop fills from the front. Assumes nothing.
 use Prim.Native.Nat.{ℕ, _+_, _≤_, _<_}
-use mathlib.Core.Path.{_≡_, _∙_}
-use mathlib.Core.Bool.{true, false, or-true}
+use mathlib.Core.Path.{_≡_, refl, _∙_}
+use mathlib.Core.Bool.{Bool, true, false, not, or-true, true≢false, false≢true}
 use mathlib.Core.List.{List}
 use native.Mathlib.Decide.{ℕ-discrete}
 use native.Mathlib.Omega.{arith}
-use borrow.Author.Tests.{lt-ltb, le-ltb}
+use borrow.Author.Tests.{lt-ltb, le-ltb, ltb-false}
 use lib.Dec.{ltb}
 use lib.ListN.{length, getD, set}
 use lib.Seq.{getD-set-same, getD-set-other}
-use Rattle.report.specs.Digits.{zero-code, nine-code, noDigit}
+use Rattle.sheet.specs.Job.{some}
+use Rattle.sheet.proofs.Refusals.{or-fails}
+use Rattle.report.specs.Digits.{zero-code, nine-code, noDigit, MarksOf}
 
+-- one element more of a list that is filled from the front
 pub filled-more : (l : List ℕ) (f : ℕ → ℕ) (j : ℕ) → j < length l → ((i : ℕ) → i < j → getD l i 0 ≡ f i) → (i : ℕ) → i < j + 1 → getD (set l j (f j)) i 0 ≡ f i
 filled-more l f j h before i k = go (ℕ-discrete i j)
   where
@@ -30,6 +33,20 @@ below-digits text j h = rw (lt-ltb (getD text j 0) zero-code h)
 pub above-digits : (text : List ℕ) (j : ℕ) → nine-code < getD text j 0 → noDigit text j ≡ true
 unfolding noDigit
 above-digits text j h = rw (lt-ltb nine-code (getD text j 0) h) (or-true (ltb (getD text j 0) zero-code))
+
+-- a digit has at least the code of 0
+pub digit-least : (text : List ℕ) (j : ℕ) → noDigit text j ≡ false → zero-code ≤ getD text j 0
+unfolding noDigit
+digit-least text j e = ltb-false (getD text j 0) zero-code (or-fails (ltb (getD text j 0) zero-code) (ltb nine-code (getD text j 0)) e .0)
+
+-- a test that says that there is no such byte
+pub none-such : (b : Bool) → true ≡ not b → b ≡ false
+none-such true e = absurd (true≢false e)
+none-such false e = refl
+
+-- a text that is refused, left as it is
+pub left-as-is : (text : List ℕ) → false ≡ not (some (length text) (noDigit text)) → MarksOf text text false
+left-as-is text e = record { long = refl; digits = e; marks = λ q. absurd (false≢true q); untouched = λ _. refl }
 
 -- what a store at j leaves after j
 pub kept-after : (l l₀ : List ℕ) (a j : ℕ) → ((i : ℕ) → j ≤ i → getD l i 0 ≡ getD l₀ i 0) → (i : ℕ) → j + 1 ≤ i → getD (set l j a) i 0 ≡ getD l₀ i 0

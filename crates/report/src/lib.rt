@@ -1,28 +1,37 @@
 // The words and numbers that the programs print, and marks as text.
 ghost use mathlib.Core.Path.{_≡_};
-ghost use Rattle.report.specs.Digits.{TextOf, MarksOf};
+ghost use mathlib.Core.Bool.{true, false, not};
+ghost use lib.ListN.{length};
+ghost use Rattle.sheet.specs.Job.{some};
+ghost use Rattle.report.specs.Digits.{noDigit, TextOf, MarksOf};
 use libc::STDOUT_FILENO;
 
 const ZERO: u8 = b'0';
 
 const NINE: u8 = b'9';
 
+// Digits are decimal.
+const BASE: u8 = 10;
+
+// The most tasks.
+const TASK_LIMIT: usize = 64;
+
 // The digit of each mark.
-pub fn digits(marks: [u8; 64]) -> [u8; 64]
+pub fn digits(marks: [u8; TASK_LIMIT]) -> [u8; TASK_LIMIT]
     ensures { λ r. ⌜ TextOf marks r ⌝ }
 {
-    let mut text = [0u8; 64];
+    let mut text = [0u8; TASK_LIMIT];
     let mut j: usize = 0;
-    while j < 64 {
-        text[j] = ZERO + marks[j] % 10;
+    while j < TASK_LIMIT {
+        text[j] = ZERO + marks[j] % BASE;
         j += 1;
     }
     text
 }
 
-// The marks that a text of digits gives, in its place; false where a byte is no digit.
-pub fn to_marks(text: &mut [u8]) -> bool
-    ensures { λ r. ⌜ MarksOf (now (text .entry)) (now (text .exit)) r ⌝ }
+// Whether every byte of the text is a digit.
+fn is_digits(text: &[u8]) -> bool
+    ensures { λ r. ⌜ r ≡ not (some (length (now (text .entry))) (noDigit (now (text .entry)))) ⌝ }
 {
     let mut j: usize = 0;
     while j < text.len() {
@@ -33,10 +42,32 @@ pub fn to_marks(text: &mut [u8]) -> bool
         if NINE < c {
             return false;
         }
-        text[j] = c - ZERO;
         j += 1;
     }
     true
+}
+
+// The marks that a text of digits gives, in its place.
+fn convert(text: &mut [u8])
+    requires { ⌜ some (length (now text)) (noDigit (now text)) ≡ false ⌝ }
+    ensures { λ _. ⌜ MarksOf (now (text .entry)) (now (text .exit)) true ⌝ }
+{
+    let mut j: usize = 0;
+    while j < text.len() {
+        text[j] -= ZERO;
+        j += 1;
+    }
+}
+
+// The marks that a text of digits gives, in its place; false, and no byte written, where a byte is no digit.
+pub fn to_marks(text: &mut [u8]) -> bool
+    ensures { λ r. ⌜ MarksOf (now (text .entry)) (now (text .exit)) r ⌝ }
+{
+    if is_digits(text) {
+        convert(text);
+        return true;
+    }
+    false
 }
 
 // A line of text.

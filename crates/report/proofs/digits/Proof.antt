@@ -1,19 +1,20 @@
--- `report::digits` meets its contract. The loop's invariant: the bytes before j are the digits of the marks before j. The measure is what is left of the 64. Assumes nothing.
+-- `report::digits` meets its contract. The loop's invariant: the bytes before j are the digits of the marks before j. The measure is what is left of the marks. Assumes nothing.
 use Prim.Native.Nat.{ℕ, _+_, _-_, _%_, _≤_, _<_}
 use mathlib.Core.Path.{_≡_, refl}
 use native.Mathlib.Omega.{arith}
 use borrow.Author.Needs.{needs}
 use lib.ListN.{length, getD, length-set}
-use Rattle.report.specs.Digits.{zero-code}
+use Rattle.sheet.specs.Job.{taskLimit}
+use Rattle.report.specs.Digits.{zero-code, base}
 use Rattle.report.proofs.Texts.{filled-more}
 use Rattle.report.proofs.digits.Statement.{statement}
 use Rattle.report.proofs.digits.Tie as tie
 
 abbrev Inv-loop : tie.InvT-loop
-Inv-loop marks text₀ j₀ text j = (j ≤ 64) × (length marks ≡ 64) × (length text ≡ 64) × ((i : ℕ) → i < j → getD text i 0 ≡ zero-code + getD marks i 0 % 10)
+Inv-loop marks text₀ j₀ text j = (j ≤ taskLimit) × (length marks ≡ taskLimit) × (length text ≡ taskLimit) × ((i : ℕ) → i < j → getD text i 0 ≡ zero-code + getD marks i 0 % base)
 
 abbrev μ-loop : tie.MeasureT-loop
-μ-loop marks text₀ j₀ text j = 64 - j
+μ-loop marks text₀ j₀ text j = taskLimit - j
 
 loop-holds : tie.Need-loop-holds Inv-loop μ-loop
 loop-holds c = (search needs, search needs, refl, λ i h. absurd (omega arith))
@@ -34,7 +35,7 @@ loop-less : tie.Need-loop-less Inv-loop μ-loop
 loop-less c = omega arith
 
 loop-again : tie.Need-loop-again Inv-loop μ-loop
-loop-again c = (omega arith, c .before .loop .inv .1, simp length-set (c .before .loop .inv .2), filled-more (c .before .loop .text) (λ i. zero-code + getD (c .before .before .args .t1) i 0 % 10) (c .before .loop .j) (omega arith) (c .before .loop .inv .3))
+loop-again c = (omega arith, c .before .loop .inv .1, simp length-set (c .before .loop .inv .2), filled-more (c .before .loop .text) (λ i. zero-code + getD (c .before .before .args .t1) i 0 % base) (c .before .loop .j) (omega arith) (c .before .loop .inv .3))
 
 returns : tie.Need-returns Inv-loop μ-loop
 returns c = record { long = c .before .loop .inv .2; digit = λ i h. c .before .loop .inv .3 i (omega arith) }
