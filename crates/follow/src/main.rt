@@ -3,6 +3,15 @@
 use libc::STDIN_FILENO;
 use run::Run;
 
+// Linux hands a program no argument of more than 131,071 bytes.
+const ARGUMENT_SPACE: usize = 131_072;
+
+// 13,107 records of 5 bytes.
+const PIECE_LENGTH: usize = 65_535;
+
+// More pieces than any file holds.
+const MAX_PIECES: u64 = 1 << 48;
+
 fn show(run: Run) {
     let place = run.place;
     let sums = place.sums;
@@ -19,59 +28,75 @@ fn show(run: Run) {
     report::numbered(b"recovery", sums.recovery);
 }
 
-// The run of the sheet and the marks through the log.
-fn follow(sheet: &[u8], marks: &[u8], log: &[u8]) {
+// Follows the log piece by piece from the state given. A piece holds whole records, and one that is not full is the last.
+// After full pieces only, the last is empty: an empty log after accepted records is accepted and changes nothing.
+fn follow_log(run: Run, file: i32) {
+    let mut piece = [0u8; PIECE_LENGTH];
+    let mut state = run;
+    let mut i: u64 = 0;
+    while i < MAX_PIECES {
+        let taken = report::read_all(file, &mut piece);
+        if taken.failed {
+            report::line(b"cannot read: log");
+            return;
+        }
+        let n = taken.n;
+        let followed = run::follow(state, &piece[..n]);
+        if followed.number != 0 {
+            report::refused(followed.number);
+            return;
+        }
+        state = followed.run;
+        if n < PIECE_LENGTH {
+            show(state);
+            return;
+        }
+        i += 1;
+    }
+    report::line(b"too long: log");
+}
+
+// The run of the sheet and the marks through the log. The log is read only after both are accepted.
+fn follow(sheet: &[u8], marks: &[u8], file: i32) {
     let started = run::start(sheet, marks);
     if started.number != 0 {
         report::refused(started.number);
         return;
     }
-    let fresh = started.run;
-    let followed = run::follow(fresh, log);
-    if followed.number != 0 {
-        report::refused(followed.number);
-        return;
-    }
-    show(followed.run);
+    follow_log(started.run, file);
 }
 
 // One byte more than the longest sheet is read, so that a longer one is seen to be too long.
-fn read_and_follow(marks: &[u8], log: &[u8]) {
+fn read_and_follow(marks: &[u8], file: i32) {
     let mut sheet = [0u8; 4097];
-    let n = io::read_full(STDIN_FILENO, &mut sheet);
-    follow(&sheet[..n], marks, log);
+    let taken = report::read_all(STDIN_FILENO, &mut sheet);
+    if taken.failed {
+        report::line(b"cannot read: sheet");
+        return;
+    }
+    let n = taken.n;
+    follow(&sheet[..n], marks, file);
 }
 
-// The log is read whole up to 65,535 bytes; a longer one is not followed in part. Taking the argument left errno at 0, so that it tells whether a read failed.
-fn read_log(marks: &[u8], path: &[u8]) {
+// The log is opened before the sheet is read.
+fn open_and_follow(marks: &[u8], path: &[u8]) {
     let file = os::open_read(path);
     if file < 0 {
         report::line(b"cannot read: log");
         return;
     }
-    let mut log = io::large_buffer();
-    let n = io::read_full(file, &mut log);
-    let failed = os::errno() != 0;
+    read_and_follow(marks, file);
     libc::close(file);
-    if failed {
-        report::line(b"cannot read: log");
-        return;
-    }
-    if n == 65_536 {
-        report::line(b"too long: log");
-        return;
-    }
-    read_and_follow(marks, &log[..n]);
 }
 
-fn open_log(marks: &[u8]) {
+fn take_path(marks: &[u8]) {
     let mut path = io::buffer();
     let n = os::arg(2, &mut path);
     if os::errno() != 0 {
         report::line(b"argument too long: log");
         return;
     }
-    read_log(marks, &path[..n]);
+    open_and_follow(marks, &path[..n]);
 }
 
 // The run under the marks that the text gives.
@@ -80,7 +105,7 @@ fn follow_text(text: &mut [u8]) {
         report::line(b"not digits: marks");
         return;
     }
-    open_log(text);
+    take_path(text);
 }
 
 fn main() {
@@ -93,7 +118,7 @@ fn main() {
         report::line(b"missing argument: log");
         return;
     }
-    let mut text = [0u8; 4096];
+    let mut text = [0u8; ARGUMENT_SPACE];
     let n = os::arg(1, &mut text);
     if os::errno() != 0 {
         report::line(b"argument too long: marks");

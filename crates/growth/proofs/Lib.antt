@@ -1,3 +1,4 @@
 mod Error
 pub mod Laws
+mod Settled
 mod Terms

@@ -7,12 +7,24 @@ use units::UNIT;
 
 const LAST_TERM: u64 = 32;
 
+const SETTLED_FROM: u64 = 3;
+
 // n / d rounded up.
 fn ceil_div(n: u64, d: u64) -> u64
     requires { ⌜ (0 < d) × (n + d < 2 ^ 64) ⌝ }
     ensures { λ r. ⌜ r ≡ Growth.ceilDiv n d ⌝ }
 {
     (n + (d - 1)) / d
+}
+
+// From the third term on, a term of 0 or 1 stands for all later ones.
+fn is_settled(k: u64, term: u64) -> bool
+    ensures { λ r. ⌜ r ≡ Growth.settled k term ⌝ }
+{
+    if k < SETTLED_FROM {
+        return false;
+    }
+    term <= 1
 }
 
 // Both sums: they differ in the divisor's shift alone, 0 for G and 1 for H.
@@ -27,6 +39,9 @@ fn growth(shift: u64, y: u64) -> u64
     let mut sum = UNIT;
     let mut k = 0;
     while k < LAST_TERM {
+        if is_settled(k, term) {
+            return sum + (LAST_TERM - k) * term;
+        }
         k += 1;
         term = ceil_div(term * y, (k + shift) * UNIT);
         sum += term;

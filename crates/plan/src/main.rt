@@ -21,6 +21,11 @@ fn show(sheet: &[u8]) {
 // One byte more than the longest sheet is read, so that a longer one is seen to be too long.
 fn main() {
     let mut sheet = [0u8; 4097];
-    let n = io::read_full(STDIN_FILENO, &mut sheet);
+    let taken = report::read_all(STDIN_FILENO, &mut sheet);
+    if taken.failed {
+        report::line(b"cannot read: sheet");
+        return;
+    }
+    let n = taken.n;
     show(&sheet[..n]);
 }

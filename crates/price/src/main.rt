@@ -1,6 +1,9 @@
 // Prints the time of the marks, given as digits in the first argument, under the job sheet on standard input; or the number of their refusal.
 use libc::STDIN_FILENO;
 
+// Linux hands a program no argument of more than 131,071 bytes.
+const ARGUMENT_SPACE: usize = 131_072;
+
 // The price of the marks.
 fn show(sheet: &[u8], marks: &[u8]) {
     let answer = pricing::price(sheet, marks);
@@ -14,7 +17,12 @@ fn show(sheet: &[u8], marks: &[u8]) {
 // One byte more than the longest sheet is read, so that a longer one is seen to be too long.
 fn read_and_show(marks: &[u8]) {
     let mut sheet = [0u8; 4097];
-    let n = io::read_full(STDIN_FILENO, &mut sheet);
+    let taken = report::read_all(STDIN_FILENO, &mut sheet);
+    if taken.failed {
+        report::line(b"cannot read: sheet");
+        return;
+    }
+    let n = taken.n;
     show(&sheet[..n], marks);
 }
 
@@ -32,7 +40,7 @@ fn main() {
         report::line(b"missing argument: marks");
         return;
     }
-    let mut text = [0u8; 4096];
+    let mut text = [0u8; ARGUMENT_SPACE];
     let n = os::arg(1, &mut text);
     if os::errno() != 0 {
         report::line(b"argument too long: marks");

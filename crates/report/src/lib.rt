@@ -2,6 +2,7 @@
 ghost use mathlib.Core.Path.{_≡_};
 ghost use mathlib.Core.Bool.{true, false, not};
 ghost use lib.ListN.{length};
+ghost use Rattle.io.specs.Counts.{Counts};
 ghost use Rattle.sheet.specs.Job.{some};
 ghost use Rattle.report.specs.Digits.{noDigit, TextOf, MarksOf};
 use libc::STDOUT_FILENO;
@@ -87,4 +88,29 @@ pub fn numbered(word: &[u8], n: u64) {
 // The answer to a call that was refused.
 pub fn refused(number: u64) {
     numbered(b"refused", number);
+}
+
+// How many bytes a read put at the start of its buffer, and whether it failed.
+pub struct Taken {
+    pub n: usize,
+    pub failed: bool,
+}
+
+// Reads until the buffer is full, the input ends or a read fails. Unlike `io::read_full`, it tells a failure from the input's end.
+pub fn read_all(fd: i32, buf: &mut [u8]) -> Taken
+    ensures { λ r. ⌜ Counts (r .n) (now (buf .exit)) ⌝ }
+{
+    let mut n: usize = 0;
+    while n < buf.len() {
+        let got = libc::read(fd, &mut buf[n..]);
+        if got < 0 {
+            return Taken { n, failed: true };
+        }
+        let more = io::count(got, &buf[n..]);
+        if more == 0 {
+            return Taken { n, failed: false };
+        }
+        n += more;
+    }
+    Taken { n, failed: false }
 }

@@ -41,11 +41,11 @@ fn put_entry(t: &mut [u64], at: usize, f: Factors)
 }
 
 // The factors of one pair of ends, if it is a stretch of the n tasks.
-fn fill_pair(t: &mut [u64], platform: Platform, n: usize, sums: [u64; 65], p: usize)
+fn fill_pair(t: &mut [u64], platform: Platform, n: usize, sums: &[u64], p: usize)
     requires { ⌜ (p < positions * positions) × (n < positions) × (platform .v ≤ costLimit) ⌝ }
-    requires { ⌜ Growing n sums ⌝ }
-    requires { ⌜ Tabled platform n (difference sums) p (now t) ⌝ }
-    ensures { λ _. ⌜ Tabled platform n (difference sums) (p + 1) (now (t .exit)) ⌝ }
+    requires { ⌜ Growing n (now sums) ⌝ }
+    requires { ⌜ Tabled platform n (difference (now sums)) p (now t) ⌝ }
+    ensures { λ _. ⌜ Tabled platform n (difference (now (sums .entry))) (p + 1) (now (t .exit)) ⌝ }
 {
     let u = p / POSITIONS;
     let v = p % POSITIONS;
@@ -69,7 +69,7 @@ pub fn fill(t: &mut [u64], job: Job)
     let sums = totals(job);
     let mut p: usize = 0;
     while p < POSITIONS * POSITIONS {
-        fill_pair(t, platform, n, sums, p);
+        fill_pair(t, platform, n, &sums, p);
         p += 1;
     }
 }

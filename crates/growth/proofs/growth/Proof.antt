@@ -1,14 +1,20 @@
 -- `growth::growth` meets its contract. The loop's invariant: `term` is the term k, and `sum` the sum of the terms up to it. Every such sum is below
--- the cap of `Terms.antt`, which keeps each product and sum within 64 bits. The measure is the number of terms left.
+-- the cap of `Terms.antt`, which keeps each product and sum within 64 bits. A settled term stands for those left
+-- (`settled-sum`). The measure is the number of terms left.
 -- Assumes nothing.
+use mathlib.Core.Bool.{true, false≢true}
 use mathlib.Core.Path.{_≡_, refl, sym, _∙_}
 use Prim.Native.Nat.{ℕ, _+_, _-_, _*_, _^_, _≤_, _<_}
-use native.Mathlib.Nat.{le-trans, le-of-eq, mul-le-mul}
+use native.Mathlib.Nat.{le-trans, le-of-eq, mul-le-mul, mul-le-mul-left}
 use native.Mathlib.Numerals.{add-one}
+use native.Mathlib.Decide.{decLe}
 use native.Mathlib.Omega.{arith}
+use borrow.Author.Tests.{le-leb, lt-leb}
+use borrow.Author.Needs.{needs}
 use Rattle.units.specs.Unit.{unit, exponentLimit}
-use Rattle.growth.specs.Growth.{lastTerm, ceilDiv, term, termSum, growthSum}
+use Rattle.growth.specs.Growth.{lastTerm, settledFrom, settled, ceilDiv, term, termSum, growthSum}
 use Rattle.growth.proofs.Terms.{term-le-sum, termSum-cap, growth-within, growth-above}
+use Rattle.growth.proofs.Settled.{settled-sum}
 use Rattle.growth.proofs.growth.Statement.{statement}
 use Rattle.growth.proofs.growth.Tie as tie
 
@@ -29,6 +35,19 @@ product-cap s y t sum k within at =
 sum-cap : (s y t sum k : ℕ) → y ≤ exponentLimit → UpTo s y t sum k → sum ≤ 55 * 2 ^ 24
 sum-cap s y t sum k within at = le-trans (le-of-eq (at .2)) (termSum-cap s y k (at .0) within)
 
+-- a settled term is 0 or 1, and not before the third
+settled-small : (k t : ℕ) → settled k t ≡ true → (settledFrom ≤ k) × (t ≤ 1)
+unfolding settled
+settled-small k t e = go (decLe settledFrom k) (decLe t 1)
+  where
+    go : Dec (settledFrom ≤ k) → Dec (t ≤ 1) → (settledFrom ≤ k) × (t ≤ 1)
+    go (yes a) (yes b) = (a, b)
+    go (yes a) (no b) = absurd (false≢true (rw (le-leb settledFrom k a, lt-leb t 1 (omega arith)) at e))
+    go (no a) b = absurd (false≢true (rw (lt-leb settledFrom k (omega arith)) at e))
+
+rest-cap : (k t : ℕ) → settled k t ≡ true → (lastTerm - k) * t ≤ lastTerm
+rest-cap k t e = omega (arith, mul-le-mul-left (lastTerm - k) (settled-small k t e .1))
+
 abbrev Inv-loop : tie.InvT-loop
 Inv-loop shift y term₀ sum₀ k₀ t sum k = UpTo shift y t sum k
 
@@ -42,11 +61,31 @@ loop-holds : tie.Need-loop-holds Inv-loop μ-loop
 unfolding term termSum
 loop-holds c = (omega arith, refl, refl)
 
+is-settled-requires : tie.Need-is-settled-requires Inv-loop μ-loop
+is-settled-requires c κs = search needs
+
+sub-result : tie.Need-sub-result Inv-loop μ-loop
+sub-result c = omega arith
+
+mul-result : tie.Need-mul-result Inv-loop μ-loop
+mul-result c = omega (arith, rest-cap _ _ (sym (c .before .is-settled .ensures) ∙ c .if2 .taken))
+
+add-result : tie.Need-add-result Inv-loop μ-loop
+add-result c =
+    omega (arith, sum-cap _ _ _ _ _ (omega arith) (c .before .before .before .loop .inv), rest-cap _ _ (sym (c .before .is-settled .ensures) ∙ c .if2 .taken))
+
+returns-2 : tie.Need-returns-2 Inv-loop μ-loop
+returns-2 c =
+    let inv = c .before .before .before .loop .inv in
+    let small = settled-small _ _ (sym (c .before .is-settled .ensures) ∙ c .if2 .taken) in
+    rw (inv .1, inv .2)
+    (settled-sum _ _ (omega arith) _ (small .0) (inv .0) (rw (inv .1) at (small .1)) ∙ sym (growth-within _ _ (omega arith)))
+
 add-k : tie.Need-add-k Inv-loop μ-loop
 add-k c = omega arith
 
 mul-ceil-div : tie.Need-mul-ceil-div Inv-loop μ-loop
-mul-ceil-div c = omega (arith, product-cap _ _ _ _ _ (omega arith) (c .before .loop .inv))
+mul-ceil-div c = omega (arith, product-cap _ _ _ _ _ (omega arith) (c .before .before .before .loop .inv))
 
 add-ceil-div : tie.Need-add-ceil-div Inv-loop μ-loop
 add-ceil-div c = omega arith
@@ -55,22 +94,22 @@ mul-ceil-div-2 : tie.Need-mul-ceil-div-2 Inv-loop μ-loop
 mul-ceil-div-2 c = omega arith
 
 ceil-div-requires : tie.Need-ceil-div-requires Inv-loop μ-loop
-ceil-div-requires c κs = omega (arith, product-cap _ _ _ _ _ (omega arith) (c .before .loop .inv))
+ceil-div-requires c κs = omega (arith, product-cap _ _ _ _ _ (omega arith) (c .before .before .before .loop .inv))
 
 add-sum : tie.Need-add-sum Inv-loop μ-loop
 add-sum c =
-    let at-loop = c .before .before in
+    let at-loop = c .before .before .before .before in
     omega (arith, sum-cap _ _ _ _ _ (omega arith) (up-to-next _ _ _ _ _ _ (omega arith) (at-loop .loop .inv) (c .ceil-div .ensures)))
 
 loop-less : tie.Need-loop-less Inv-loop μ-loop
 loop-less c = omega arith
 
 loop-again : tie.Need-loop-again Inv-loop μ-loop
-loop-again c = up-to-next _ _ _ _ _ _ (omega arith) (c .before .before .loop .inv) (c .ceil-div .ensures)
+loop-again c = up-to-next _ _ _ _ _ _ (omega arith) (c .before .before .before .before .loop .inv) (c .ceil-div .ensures)
 
-returns-2 : tie.Need-returns-2 Inv-loop μ-loop
+returns-3 : tie.Need-returns-3 Inv-loop μ-loop
 unfolding growthSum
-returns-2 c =
+returns-3 c =
     let at-end : c .before .loop .k ≡ lastTerm = omega arith in
     rw at-end at (c .before .loop .inv .2) ∙ sym (growth-within _ _ (omega arith))
 
@@ -82,6 +121,11 @@ growth-spec =
     μ-loop
     returns
     loop-holds
+    is-settled-requires
+    sub-result
+    mul-result
+    add-result
+    returns-2
     add-k
     mul-ceil-div
     add-ceil-div
@@ -90,4 +134,4 @@ growth-spec =
     add-sum
     loop-less
     loop-again
-    returns-2)
+    returns-3)

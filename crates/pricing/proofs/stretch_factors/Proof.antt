@@ -23,7 +23,7 @@ mul-rounded-up : tie.Need-mul-rounded-up
 mul-rounded-up c = record { fits = rw (c .h .ensures) (omega (arith, weighted (c .before .before .exponent-of2 .result) (c .before .before .before .before .pre .0))) }
 
 rounded-up-requires : tie.Need-rounded-up-requires
-rounded-up-requires c κs = search needs
+rounded-up-requires c κs = rw (c .h .ensures) (omega (arith, weighted (c .before .before .exponent-of2 .result) (c .before .before .before .before .pre .0)))
 
 cast-work : tie.Need-cast-work
 cast-work c = search needs
@@ -35,7 +35,7 @@ mul-rounded-up-2 : tie.Need-mul-rounded-up-2
 mul-rounded-up-2 c = record { fits = rw (c .before .rounded-up .ensures, c .before .before .h .ensures, c .before .before .before .g .ensures) (omega (arith, grown (c .before .before .before .before .before .exponent-of .result) (worked (c .before .before .before .before .exponent-of2 .result) (c .before .before .before .before .before .before .pre .0) (c .before .before .before .before .before .before .pre .1)))) }
 
 rounded-up-requires-2 : tie.Need-rounded-up-requires-2
-rounded-up-requires-2 c κs = search needs
+rounded-up-requires-2 c κs = rw (c .before .rounded-up .ensures, c .before .before .h .ensures, c .before .before .before .g .ensures) (omega (arith, grown (c .before .before .before .before .before .exponent-of .result) (worked (c .before .before .before .before .exponent-of2 .result) (c .before .before .before .before .before .before .pre .0) (c .before .before .before .before .before .before .pre .1))))
 
 add-g : tie.Need-add-g
 add-g c = search needs

