@@ -1,12 +1,13 @@
-//! `bench`: the library's plan beside a plain Rust planner, and how many
-//! prices and steps a second.
+//! `bench`: the library's plan beside a plain Rust planner of the same
+//! algorithm and a tuned one, and how many prices and steps a second.
 
 use compare::harness::random::Random;
 use compare::library;
-use compare::plain;
+use compare::plain::{self, Plan};
 use compare::reference::run::{Event, State};
 use compare::reference::sheet::{self, Job, Platform};
 use compare::reference::{run, setting};
+use compare::tuned;
 use std::hint::black_box;
 use std::time::Instant;
 
@@ -27,6 +28,7 @@ const PLATFORMS: [(&str, f64, f64, u32, u32); 4] = [
 struct Medians {
     library: f64,
     plain: f64,
+    tuned: f64,
 }
 
 /// Errors a second to units of 2^-48 a tick.
@@ -77,8 +79,8 @@ fn library_plan(sheet: &[u8]) -> (u64, [u8; 64]) {
     (answer.time, buffer)
 }
 
-fn plain_plan(sheet: &[u8]) -> (u64, [u8; 64]) {
-    let plan = sheet::read(sheet).ok().and_then(|job| plain::plan(&job));
+fn rust_plan(sheet: &[u8], planner: fn(&Job) -> Option<Plan>) -> (u64, [u8; 64]) {
+    let plan = sheet::read(sheet).ok().and_then(|job| planner(&job));
     plan.map_or((0, [0; 64]), |p| (p.time, p.marks))
 }
 
@@ -106,28 +108,29 @@ fn effort(n: usize) -> (usize, u32) {
     }
 }
 
-/// Both planners in turn on the sheets, the first place changing hands.
+/// The planners in turn on the sheets, the first place changing hands.
 fn planners(sheets: &[Vec<u8>], n: usize) -> Medians {
     let (rounds, batch) = effort(n);
-    let (mut ours, mut theirs) = (Vec::new(), Vec::new());
+    let mut times = [Vec::new(), Vec::new(), Vec::new()];
     for round in 0..rounds {
-        let sheet = &sheets[round % sheets.len()];
-        let mut library = || ours.push(timed(batch, || library_plan(black_box(sheet))));
-        let mut plain = || theirs.push(timed(batch, || plain_plan(black_box(sheet))));
-        if (round / sheets.len()).is_multiple_of(2) {
-            library();
-            plain();
-        } else {
-            plain();
-            library();
+        let sheet = black_box(&sheets[round % sheets.len()]);
+        for turn in 0..3 {
+            let which = (round / sheets.len() + turn) % 3;
+            times[which].push(match which {
+                0 => timed(batch, || library_plan(sheet)),
+                1 => timed(batch, || rust_plan(sheet, plain::plan)),
+                _ => timed(batch, || rust_plan(sheet, tuned::plan)),
+            });
         }
     }
-    Medians { library: median(ours), plain: median(theirs) }
+    let [library, plain, tuned] = times.map(median);
+    Medians { library, plain, tuned }
 }
 
 /// The planners agree on a sheet.
 fn agree(sheet: &[u8]) -> bool {
-    library_plan(sheet) == plain_plan(sheet)
+    let ours = library_plan(sheet);
+    ours == rust_plan(sheet, plain::plan) && ours == rust_plan(sheet, tuned::plan)
 }
 
 fn row(name: &str, n: usize, sheets: &[Vec<u8>]) {
@@ -136,13 +139,15 @@ fn row(name: &str, n: usize, sheets: &[Vec<u8>]) {
         return;
     }
     let m = planners(sheets, n);
-    let ratio = m.library / m.plain;
-    println!("{name:<12}{n:>6}{:>14.1}{:>14.1}{ratio:>9.2}", m.library, m.plain);
+    let (a, b) = (m.library / m.plain, m.library / m.tuned);
+    print!("{name:<12}{n:>6}{:>11.1}{:>11.1}{:>11.1}", m.library, m.plain, m.tuned);
+    println!("{a:>15.2}{b:>15.2}");
 }
 
 fn plans() {
     println!("plan, medians in microseconds");
-    println!("{:<12}{:>6}{:>14}{:>14}{:>9}", "platform", "tasks", "library", "plain", "ratio");
+    print!("{:<12}{:>6}{:>11}{:>11}{:>11}", "platform", "tasks", "library", "plain", "tuned");
+    println!("{:>15}{:>15}", "library/plain", "library/tuned");
     for (at, platform) in PLATFORMS.iter().enumerate() {
         for n in SIZES {
             row(platform.0, n, &[sheet_of(&table_job(at, n))]);

@@ -1,19 +1,18 @@
-//! A quick planner in plain Rust, for the benchmark: rows over previous
-//! positions at three levels, growth sums once for each pair of ends, and
-//! 64-bit arithmetic.
+//! A planner in plain Rust with the library's algorithm, for the benchmark:
+//! rows filled forward at three levels, the growth sums of each pair of ends
+//! worked out once, and a walk back that fills again the rows that it needs.
 //!
 //! A time beyond the limit is kept as NONE = 2^34. A growth is under 2^29.8
 //! and a time with a recovery at most 2^34 + 2^30, so products fit 64 bits.
 
 use crate::reference::sheet::{Job, Platform, MOST_TASKS};
 
-const SHIFT: u32 = 24;
-const ONE: u64 = 1 << SHIFT;
+const POSITIONS: usize = MOST_TASKS + 1;
+const UNIT: u64 = 1 << 24;
 const EXPONENT_LIMIT: u64 = 1 << 26;
+const LAST_TERM: u64 = 32;
 /// 'None yet', and any time above the limit.
 const NONE: u64 = 1 << 34;
-
-type Row = [u64; MOST_TASKS + 1];
 
 /// A plan, or nothing if it is too slow.
 pub struct Plan {
@@ -21,194 +20,158 @@ pub struct Plan {
     pub marks: [u8; MOST_TASKS],
 }
 
-/// What one pair of ends adds to the time.
+/// The growth sums of one pair of ends; `error` is 0 if it is not allowed.
 #[derive(Clone, Copy, Default)]
-struct Pair {
-    /// Work and verification, with the memory recovery in the second table.
+struct Factors {
     work: u64,
-    /// G(y_s + y_f) - G(y_s).
-    stop: u32,
-    /// G(y_s + y_f) - 2^24.
-    again: u32,
+    silent: u64,
+    error: u64,
 }
 
-/// Pairs by later end, then by earlier end.
-struct Tables {
-    /// For a memory copy at 0, and for a later one.
-    pairs: [Vec<[Pair; MOST_TASKS]>; 2],
-    /// The earliest allowed beginning of a stretch to each end.
-    from: [usize; MOST_TASKS + 1],
+type Table = [[Factors; POSITIONS]; POSITIONS];
+
+/// The best time to each position, and the position before it.
+struct Row {
+    time: [u64; POSITIONS],
+    before: [usize; POSITIONS],
 }
 
-/// Where each row's best time came from.
-struct Levels {
-    disk_from: [u8; MOST_TASKS + 1],
-    mem_from: Vec<[u8; MOST_TASKS + 1]>,
-    mem: Vec<Row>,
+impl Row {
+    fn from(start: usize) -> Row {
+        let mut row = Row { time: [NONE; POSITIONS], before: [0; POSITIONS] };
+        row.time[start] = 0;
+        row
+    }
+
+    fn offer(&mut self, v: usize, u: usize, time: u64) {
+        if time < self.time[v] {
+            self.time[v] = time;
+            self.before[v] = u;
+        }
+    }
 }
 
-#[inline]
 fn up(p: u64) -> u64 {
-    (p + (ONE - 1)) >> SHIFT
+    (p + (UNIT - 1)) / UNIT
 }
 
-/// 33 terms; dividing by 2^24 first and by k next rounds up the same way, and
-/// leaves a 32-bit division. Once a term is 1 or 0 and y is at most 2^24, all
-/// later terms equal it.
-#[inline]
-fn sum(y: u64, first: u32) -> u64 {
-    let mut term = ONE;
-    let mut total = ONE;
-    let last = first + 31;
-    for k in first..=last {
-        term = u64::from((up(term * y) as u32).div_ceil(k));
-        total += term;
-        if term <= 1 && y <= ONE {
-            return total + term * u64::from(last - k);
+/// 33 terms; from the third on, a term of 1 or 0 stands for all later ones.
+fn growth(shift: u64, y: u64) -> u64 {
+    if y > EXPONENT_LIMIT {
+        return 0;
+    }
+    let (mut term, mut sum) = (UNIT, UNIT);
+    for k in 1..=LAST_TERM {
+        term = (term * y).div_ceil((k + shift) * UNIT);
+        sum += term;
+        if k >= 3 && term <= 1 {
+            return sum + (LAST_TERM - k) * term;
         }
     }
-    total
+    sum
 }
 
-#[inline]
-fn exponent(rate: u32, weight: u64) -> u64 {
-    up(u64::from(rate) * weight)
+fn factors(p: &Platform, weight: u64) -> Factors {
+    let silent = up(u64::from(p.silent) * weight);
+    let stop = up(u64::from(p.failstop) * weight);
+    let growing = growth(0, silent);
+    let work = up(growing * (up(weight * growth(1, stop)) + u64::from(p.v)));
+    Factors { work, silent: growing, error: growth(0, silent + stop) }
 }
 
-impl Tables {
-    fn new(job: &Job) -> Tables {
-        let n = job.tasks();
-        let blank = vec![[Pair::default(); MOST_TASKS]; n + 1];
-        let mut tables = Tables { pairs: [blank.clone(), blank], from: [0; MOST_TASKS + 1] };
-        for v in 1..=n {
-            tables.fill(job, v);
-        }
-        tables
-    }
-
-    /// All pairs that end at v, from the shortest to the longest allowed.
-    fn fill(&mut self, job: &Job, v: usize) {
-        let p = &job.platform;
+fn table(job: &Job) -> Table {
+    let mut table = [[Factors::default(); POSITIONS]; POSITIONS];
+    for u in 0..job.tasks() {
         let mut weight = 0;
-        self.from[v] = v;
-        for u in (0..v).rev() {
-            weight += u64::from(job.weights[u]);
-            let (yf, ys) = (exponent(p.failstop, weight), exponent(p.silent, weight));
-            if ys + yf > EXPONENT_LIMIT {
-                break;
-            }
-            let (pair, back) = pair(p, weight, yf, ys);
-            self.pairs[0][v][u] = pair;
-            self.pairs[1][v][u] = Pair { work: pair.work + back, ..pair };
-            self.from[v] = u;
+        for v in u + 1..=job.tasks() {
+            weight += u64::from(job.weights[v - 1]);
+            table[u][v] = factors(&job.platform, weight);
         }
     }
+    table
+}
 
-    /// The best time from m to each later position by verifications alone.
-    #[inline]
-    fn verified(&self, n: usize, m: usize, reach: u64, q: &mut Row) {
-        let pairs = &self.pairs[usize::from(m != 0)];
-        q[m] = 0;
-        for v in m + 1..=n {
-            let low = self.from[v].max(m);
-            let before = q[low..v].iter().zip(&pairs[v][low..v]);
-            let best = before.map(|(&q, pair)| time(pair, reach, q)).min();
-            q[v] = best.map_or(NONE, |t| t.min(NONE));
-        }
-    }
-
-    /// The verification before v that such a row has.
-    fn verified_from(&self, m: usize, v: usize, reach: u64, q: &Row) -> usize {
-        let pairs = &self.pairs[usize::from(m != 0)];
-        let low = self.from[v].max(m);
-        (low..v).find(|&u| time(&pairs[v][u], reach, q[u]) == q[v]).unwrap_or(m)
+fn unless_start(cost: u32, position: usize) -> u64 {
+    if position == 0 {
+        0
+    } else {
+        u64::from(cost)
     }
 }
 
-fn pair(p: &Platform, weight: u64, yf: u64, ys: u64) -> (Pair, u64) {
-    let silent = sum(ys, 1);
-    let both = if yf == 0 { silent } else { sum(ys + yf, 1) };
-    let mean = sum(yf, 2);
-    let work = up(silent * (up(weight * mean) + u64::from(p.v)));
-    let back = up((silent - ONE) * u64::from(p.rm));
-    (Pair { work, stop: (both - silent) as u32, again: (both - ONE) as u32 }, back)
-}
-
-#[inline]
-fn time(pair: &Pair, reach: u64, q: u64) -> u64 {
-    q + pair.work + up(u64::from(pair.stop) * reach) + up(u64::from(pair.again) * q)
-}
-
-/// R_D' + M'.
-#[inline]
-fn reach(p: &Platform, d: usize, mem: u64) -> u64 {
-    mem + if d == 0 { 0 } else { u64::from(p.rd) }
-}
-
-/// The best time from d to a memory copy at each later position.
-fn remembered(job: &Job, tables: &Tables, d: usize, mem: &mut Row, from: &mut [u8]) {
-    let n = job.tasks();
-    let cm = u64::from(job.platform.cm);
-    let mut q = [NONE; MOST_TASKS + 1];
-    mem[d] = 0;
-    for m in d..n {
-        let so_far = mem[m];
-        if so_far >= NONE {
+/// The best Q from m; `disk` is R_D' + M' and `memory` is R_M'.
+fn verification_row(t: &Table, m: usize, disk: u64, memory: u64, top: usize) -> Row {
+    let mut row = Row::from(m);
+    for u in m..top {
+        let q = row.time[u];
+        if q >= NONE {
             continue;
         }
-        tables.verified(n, m, reach(&job.platform, d, so_far), &mut q);
-        for v in m + 1..=n {
-            let time = so_far + q[v] + cm;
-            if time < mem[v] {
-                mem[v] = time;
-                from[v] = m as u8;
+        for v in u + 1..=top {
+            let f = &t[u][v];
+            if f.error != 0 {
+                let stopped = up((f.error - f.silent) * disk);
+                let struck = up((f.error - UNIT) * q);
+                let failed = up((f.silent - UNIT) * memory);
+                row.offer(v, u, q + f.work + stopped + struck + failed);
             }
         }
     }
+    row
 }
 
-fn search(job: &Job, tables: &Tables) -> (u64, Levels) {
-    let n = job.tasks();
-    let cd = u64::from(job.platform.cd);
-    let mut disk = [NONE; MOST_TASKS + 1];
-    let mut levels = Levels {
-        disk_from: [0; MOST_TASKS + 1],
-        mem_from: vec![[0; MOST_TASKS + 1]; n],
-        mem: vec![[NONE; MOST_TASKS + 1]; n],
-    };
-    disk[0] = 0;
+/// The verifications after the memory copy m, whose M is `time`.
+fn after_copy(t: &Table, p: &Platform, d: usize, m: usize, time: u64, top: usize) -> Row {
+    verification_row(t, m, unless_start(p.rd, d) + time, unless_start(p.rm, m), top)
+}
+
+/// The best M from d.
+fn memory_row(t: &Table, p: &Platform, d: usize, top: usize) -> Row {
+    let mut row = Row::from(d);
+    for m in d..top {
+        let time = row.time[m];
+        if time >= NONE {
+            continue;
+        }
+        let q = after_copy(t, p, d, m, time, top);
+        for v in m + 1..=top {
+            row.offer(v, m, time + q.time[v] + u64::from(p.cm));
+        }
+    }
+    row
+}
+
+/// The best D.
+fn disk_row(t: &Table, p: &Platform, n: usize) -> Row {
+    let mut row = Row::from(0);
     for d in 0..n {
-        if disk[d] >= NONE {
+        let time = row.time[d];
+        if time >= NONE {
             continue;
         }
-        remembered(job, tables, d, &mut levels.mem[d], &mut levels.mem_from[d]);
+        let memory = memory_row(t, p, d, n);
         for v in d + 1..=n {
-            let time = disk[d] + levels.mem[d][v] + cd;
-            if time < disk[v] {
-                disk[v] = time;
-                levels.disk_from[v] = d as u8;
-            }
+            row.offer(v, d, time + memory.time[v] + u64::from(p.cd));
         }
     }
-    (disk[n], levels)
+    row
 }
 
 /// Marks from the end down, each position from the one after it.
-fn marks(job: &Job, tables: &Tables, levels: &Levels) -> [u8; MOST_TASKS] {
+fn marks(t: &Table, p: &Platform, disk: &Row, n: usize) -> [u8; MOST_TASKS] {
     let mut marks = [0; MOST_TASKS];
-    let mut q = [NONE; MOST_TASKS + 1];
-    let mut end = job.tasks();
+    let mut end = n;
     while end > 0 {
-        let d = usize::from(levels.disk_from[end]);
+        let d = disk.before[end];
+        let memory = memory_row(t, p, d, end);
         let mut copy = end;
         while copy > d {
-            let m = usize::from(levels.mem_from[d][copy]);
-            let reach = reach(&job.platform, d, levels.mem[d][m]);
-            tables.verified(copy, m, reach, &mut q);
+            let m = memory.before[copy];
+            let row = after_copy(t, p, d, m, memory.time[m], copy);
             let mut v = copy;
             while v > m {
                 marks[v - 1] = 1;
-                v = tables.verified_from(m, v, reach, &q);
+                v = row.before[v];
             }
             marks[copy - 1] = 2;
             copy = m;
@@ -221,36 +184,9 @@ fn marks(job: &Job, tables: &Tables, levels: &Levels) -> [u8; MOST_TASKS] {
 
 /// The plan of a sheet that passed 1 to 8.
 pub fn plan(job: &Job) -> Option<Plan> {
-    let tables = Tables::new(job);
-    let (time, levels) = search(job, &tables);
-    if time >= NONE {
-        return None;
-    }
-    Some(Plan { time, marks: marks(job, &tables, &levels) })
-}
-
-#[cfg(test)]
-mod tests {
-    use crate::harness::jobs;
-    use crate::harness::random::Random;
-    use crate::reference::setting::LONGEST;
-    use crate::reference::{plan, sheet};
-
-    #[test]
-    fn agrees_with_the_reference() {
-        let mut random = Random::new(11);
-        for _ in 0..3000 {
-            let job = jobs::job(&mut random, 24).job;
-            if sheet::values(&job).is_err() {
-                continue;
-            }
-            let expected = plan::by_rows(&job);
-            let expected = (expected.time <= LONGEST).then_some(expected);
-            let ours = super::plan(&job).map(|p| plan::Plan {
-                time: u128::from(p.time),
-                marks: p.marks[..job.tasks()].to_vec(),
-            });
-            assert_eq!(ours, expected);
-        }
-    }
+    let (p, n) = (&job.platform, job.tasks());
+    let table = table(job);
+    let disk = disk_row(&table, p, n);
+    let time = disk.time[n];
+    (time < NONE).then(|| Plan { time, marks: marks(&table, p, &disk, n) })
 }

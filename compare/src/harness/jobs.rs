@@ -2,10 +2,10 @@
 
 use super::marks;
 use super::random::Random;
-use crate::plain;
 use crate::reference::plan;
 use crate::reference::setting::{self, LONGEST};
 use crate::reference::sheet::{self, Job, Platform};
+use crate::tuned;
 
 const MOST: u64 = 1 << 30;
 
@@ -176,7 +176,7 @@ fn worth_marks(r: &mut Random, n: usize) -> Job {
 
 /// The plan's marks by the quick planner, none if too slow.
 fn quick_marks(job: &Job) -> Vec<u8> {
-    plain::plan(job).map_or(Vec::new(), |p| p.marks[..job.tasks()].to_vec())
+    tuned::plan(job).map_or(Vec::new(), |p| p.marks[..job.tasks()].to_vec())
 }
 
 fn count_marks(job: &Job, least: u8) -> usize {

@@ -1,14 +1,10 @@
 -- Reading a sheet: how its refusal comes from the checks, and what an accepted sheet gives. Assumes nothing.
-use Prim.Native.Nat.{ℕ, zero, suc, _<_}
-use mathlib.Core.Path.{_≡_, refl, sym, _∙_, ap}
+use Prim.Native.Nat.{ℕ, _<_}
+use mathlib.Core.Path.{_≡_, sym, _∙_}
 use mathlib.Core.List.{List}
-use native.Mathlib.Omega.{arith}
 use Rattle.sheet.specs.Refusal.{first}
 use Rattle.sheet.specs.Job.{jobConditions, Sound}
 use Rattle.sheet.specs.Sheet.{tasks, layoutConditions, weightsLength, section, weightsOf, jobOf, sheetOf, sheetConditions, sheetRefusal}
-use Rattle.sheet.specs.declared.Reading.{Reading}
-use Rattle.sheet.specs.declared.Sheet.{Sheet}
-use Rattle.sheet.specs.declared.Reading.the-variants.{Accepted, Refused}
 use lib.Dec.{lit<}
 use lib.ListN.{take, drop}
 use Rattle.sheet.proofs.Refusals.{Numbered, first-stands, first-goes-on, first-none}

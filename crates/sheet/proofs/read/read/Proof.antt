@@ -1,5 +1,5 @@
 -- `sheet::read::read` meets its contract. The sheet's refusal decides between the two cases, and the values are those of its job. Assumes nothing.
-use mathlib.Core.Path.{sym, _∙_, ap}
+use mathlib.Core.Path.{sym, _∙_}
 use native.Mathlib.Omega.{arith}
 use Rattle.sheet.specs.Sheet.{sheetOf, Says}
 use Rattle.sheet.proofs.Readings.{sheet-layout}
@@ -28,10 +28,10 @@ section-start-requires c κs = search needs
 
 returns-2 : tie.Need-returns-2
 unfolding sheetOf Says
-returns-2 c =
-    ( sym (c .before .before .before .before .before .sheet-refusal .ensures) ∙ c .before .before .before .before .if1 .left
-    , rw (c .before .before .before .task-count .ensures .0, c .before .platform-of .ensures, c .before .before .section-of .ensures, c .section-start .ensures .0)
-    )
+returns-2 c = (
+  sym (c .before .before .before .before .before .sheet-refusal .ensures) ∙ c .before .before .before .before .if1 .left,
+  rw (c .before .before .before .task-count .ensures .0, c .before .platform-of .ensures, c .before .before .section-of .ensures, c .section-start .ensures .0),
+)
 
 pub read-spec : {M : Type 1} → statement M
 read-spec =

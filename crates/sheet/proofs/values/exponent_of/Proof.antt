@@ -2,7 +2,6 @@
 use Rattle.units.specs.Unit.{up}
 use Rattle.sheet.proofs.Ranges.{product-range}
 use native.Mathlib.Omega.{arith}
-use borrow.Author.Needs.{needs}
 use Rattle.sheet.proofs.values.exponent_of.Statement.{statement}
 use Rattle.sheet.proofs.values.exponent_of.Tie as tie
 
