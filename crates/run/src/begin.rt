@@ -7,7 +7,7 @@ ghost use Rattle.run.specs.Start.{entries, refusedStart};
 use crate::Run;
 use crate::Started;
 
-// The marks as a state holds them: 0 past the last of them.
+// The marks as a state holds them: 0 past the last of them. They have passed check 9, so that they fit.
 pub fn entries_of(marks: &[u8]) -> [u8; 64]
     requires { ⌜ length (now marks) ≤ positionLimit ⌝ }
     ensures { λ r. ⌜ r ≡ entries (now (marks .entry)) ⌝ }

@@ -172,6 +172,7 @@ fn settled(run: Run, next: Place) -> Stepped
     }
 }
 
+// Done. `step` has tested 21 and 22, so that no place or sum here passes its range; the same holds for the three below.
 pub fn done(run: Run) -> Stepped
     requires { ⌜ (broken run ≡ false) × (finished run ≡ false) ⌝ }
     ensures { λ r. ⌜ r ≡ stepOf run Event.Done ⌝ }
@@ -185,6 +186,7 @@ pub fn done(run: Run) -> Stepped
     settled(run, after_done(run))
 }
 
+// Passed.
 pub fn passed(run: Run) -> Stepped
     requires { ⌜ (broken run ≡ false) × (finished run ≡ false) ⌝ }
     ensures { λ r. ⌜ r ≡ stepOf run Event.Passed ⌝ }
@@ -198,6 +200,7 @@ pub fn passed(run: Run) -> Stepped
     settled(run, after_passed(run))
 }
 
+// Failed.
 pub fn failed(run: Run) -> Stepped
     requires { ⌜ (broken run ≡ false) × (finished run ≡ false) ⌝ }
     ensures { λ r. ⌜ r ≡ stepOf run Event.Failed ⌝ }
@@ -211,6 +214,7 @@ pub fn failed(run: Run) -> Stepped
     settled(run, after_failed(run))
 }
 
+// Stopped.
 pub fn stopped(run: Run, lost: u32) -> Stepped
     requires { ⌜ (broken run ≡ false) × (finished run ≡ false) ⌝ }
     ensures { λ r. ⌜ r ≡ stepOf run (Event.Stopped lost) ⌝ }

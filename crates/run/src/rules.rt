@@ -52,7 +52,7 @@ fn awaits_nothing(marks: [u8; 64], place: Place) -> bool
     mark_at(marks, p) == 0
 }
 
-// What 21 asks of position, awaited verification and sums.
+// What 21 asks of position, awaited verification and sums. The task count has passed check 3.
 pub fn breaks_place(job: Job, marks: [u8; 64], place: Place) -> bool
     requires { ⌜ job .tasks ≤ positionLimit ⌝ }
     ensures { λ r. ⌜ r ≡ brokenPlace job (marksOf marks) place ⌝ }

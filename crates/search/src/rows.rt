@@ -1,4 +1,5 @@
 // Rows of least times. A row is filled forward: each position that is reached offers its arrivals to the later ones, and the lesser time stays.
+// The planner alone calls these, with rows that it made for a job that passed its checks.
 ghost use mathlib.Core.Path.{_≡_};
 ghost use Prim.Native.Nat.{ℕ, _+_, _*_, _<_, _≤_};
 ghost use lib.ListN.{length, getD, set, replicate};

@@ -1,4 +1,4 @@
-// The growth sums of each pair of ends, worked out once.
+// The growth sums of each pair of ends, worked out once. The planner alone calls this, for a job that passed its checks.
 ghost use mathlib.Core.Path.{_≡_};
 ghost use Prim.Native.Nat.{_+_, _*_, _<_, _≤_};
 ghost use lib.ListN.{length, set};

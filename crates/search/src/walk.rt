@@ -1,4 +1,4 @@
-// The marks of the plan, by walking back from the last task over the earliest positions before.
+// The marks of the plan, by walking back from the last task over the earliest positions before. The planner alone calls this, after the rows.
 ghost use mathlib.Core.Path.{_≡_};
 ghost use Prim.Native.Nat.{_<_, _≤_};
 ghost use lib.ListN.{length};

@@ -66,7 +66,7 @@ fn bad_value(job: Job) -> bool
     bad_weights(weights, job.tasks)
 }
 
-// y_f or y_s of a stretch.
+// y_f or y_s of a stretch. Its weight has passed check 7, so that the product fits.
 pub fn exponent_of(rate: u32, weight: u64) -> u64
     requires { ⌜ weight ≤ costLimit ⌝ }
     ensures { λ r. ⌜ (r ≡ exponent rate weight) × (r ≤ 2 ^ 38) ⌝ }
@@ -74,7 +74,7 @@ pub fn exponent_of(rate: u32, weight: u64) -> u64
     units::rounded_up((rate as u64) * weight)
 }
 
-// The stretch is within the exponent limit.
+// The stretch is within the exponent limit. Its weight has passed check 7.
 pub fn is_allowed(p: Platform, weight: u64) -> bool
     requires { ⌜ weight ≤ costLimit ⌝ }
     ensures { λ r. ⌜ r ≡ isAllowed p weight ⌝ }
