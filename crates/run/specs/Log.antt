@@ -6,7 +6,7 @@ use lib.Dec.{ltb, eqb}
 use lib.ListN.{length, take, drop}
 use Rattle.units.specs.Choice.{ite}
 use Rattle.sheet.specs.Bytes.{byteAt, fieldAt}
-use Rattle.run.specs.Run.{broken, stepOf}
+use Rattle.run.specs.Run.{brokenNumber, broken, stepOf}
 use Rattle.run.specs.declared.Run.{Run}
 use Rattle.run.specs.declared.Event.{Event}
 use Rattle.run.specs.declared.Event.the-variants.{Done, Passed, Failed, Stopped}
@@ -65,9 +65,13 @@ accepted run = record { number = 0; run = run }
 abbrev pub refused : ℕ → Run → Stepped
 refused number run = record { number = number; run = run }
 
+-- 12: the number of a bad record
+abbrev pub badRecordNumber : ℕ
+badRecordNumber = 12
+
 -- one record more: 12 is tested before 21 to 25, and nothing is read after a refusal
 unfoldable pub recorded : Stepped → List ℕ → Stepped
-recorded s r = ite (eqb (s .number) 0) (ite (badRecord r) (refused 12 (s .run)) (stepOf (s .run) (eventOf r))) s
+recorded s r = ite (eqb (s .number) 0) (ite (badRecord r) (refused badRecordNumber (s .run)) (stepOf (s .run) (eventOf r))) s
 
 -- the records before k, read and applied in turn from the state given
 unfoldable pub applied : Run → List ℕ → ℕ → Stepped
@@ -80,7 +84,7 @@ orBefore run s = ite (eqb (s .number) 0) s (refused (s .number) run)
 
 -- 21, which is tested even for an empty log
 unfoldable pub emptyLog : Run → Stepped
-emptyLog run = ite (broken run) (refused 21 run) (accepted run)
+emptyLog run = ite (broken run) (refused brokenNumber run) (accepted run)
 
 -- what a log gives
 unfoldable pub logOf : Run → List ℕ → Stepped

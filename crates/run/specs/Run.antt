@@ -7,7 +7,7 @@ use lib.ListN.{take}
 use Rattle.units.specs.Choice.{ite}
 use Rattle.setting.specs.Time.{Marks, memory, disk, last}
 use Rattle.sheet.specs.Refusal.{Condition, first}
-use Rattle.sheet.specs.Job.{taskLimit, weightAt, total, badCount, jobConditions}
+use Rattle.sheet.specs.Job.{taskLimit, weightAt, total, badCountNumber, badCount, jobConditions}
 use Rattle.sheet.specs.declared.Job.{Job}
 use Rattle.marks.specs.Marks.{marksOf, between, marksConditions}
 use Rattle.marks.specs.Pays.{paysOf}
@@ -117,7 +117,7 @@ nextPlace run event = placeAfter (run .job) (marksIn run) (run .place) event
 -- 3 and 7 to 10, asked of a task count, sheet values and marks
 abbrev pub valueConditions : Job → List ℕ → List Condition
 valueConditions job marks =
-    record { number = 3; holds = badCount (job .tasks) } ∷ (jobConditions job ++ marksConditions job marks)
+    record { number = badCountNumber; holds = badCount (job .tasks) } ∷ (jobConditions job ++ marksConditions job marks)
 
 unfoldable pub brokenValues : Job → List ℕ → Bool
 brokenValues job marks = not (eqb (first (valueConditions job marks)) 0)
@@ -160,10 +160,14 @@ overWeight run (Stopped lost) = ltb (weightAt (run .job .weights) (run .place .p
 unfoldable pub overTotal : Place → Bool
 overTotal next = ltb totalLimit (totalOf (next .sums))
 
+-- the number of the refusal of a state that breaks a rule, which an empty log gives too
+abbrev pub brokenNumber : ℕ
+brokenNumber = 21
+
 -- refusals 21 to 25, in their order
 abbrev pub stepConditions : Run → Event → List Condition
 stepConditions run event =
-    record { number = 21; holds = broken run }
+    record { number = brokenNumber; holds = broken run }
     ∷ record { number = 22; holds = finished run }
     ∷ record { number = 23; holds = outOfTurn (run .place .awaiting) event }
     ∷ record { number = 24; holds = overWeight run event }

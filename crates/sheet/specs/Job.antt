@@ -40,6 +40,10 @@ exponent rate W = up (rate * W)
 unfoldable pub isAllowed : Platform → ℕ → Bool
 isAllowed p W = leb (exponent (p .silent) W + exponent (p .failstop) W) exponentLimit
 
+-- the number of check 3, which is asked of a run's state too
+abbrev pub badCountNumber : ℕ
+badCountNumber = 3
+
 -- 3: n is 0 or above 64
 unfoldable pub badCount : ℕ → Bool
 badCount n = eqb n 0 || ltb taskLimit n

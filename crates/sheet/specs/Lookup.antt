@@ -8,12 +8,12 @@ use lib.ListN.{take, drop}
 use denote.Ref.{RefT, now, ptr}
 use Rattle.units.specs.Choice.{ite}
 use Rattle.sheet.specs.Refusal.{Condition, first}
-use Rattle.sheet.specs.Sheet.{platformKind, weightsKind, offset, size, place, layoutConditions}
+use Rattle.sheet.specs.Sheet.{platformKind, weightsKind, badKindsNumber, offset, size, place, layoutConditions}
 
 -- checks 1 to 6; a kind that the sheet lacks gives 6
 abbrev pub lookupConditions : List ℕ → ℕ → List Condition
 lookupConditions s k =
-    layoutConditions s ++ (record { number = 6; holds = not (eqb k platformKind || eqb k weightsKind) } ∷ [])
+    layoutConditions s ++ (record { number = badKindsNumber; holds = not (eqb k platformKind || eqb k weightsKind) } ∷ [])
 
 unfoldable pub lookupRefusal : List ℕ → ℕ → ℕ
 lookupRefusal s k = first (lookupConditions s k)

@@ -8,7 +8,7 @@ use lib.ListN.{length, take, drop}
 use Rattle.units.specs.Choice.{ite}
 use Rattle.sheet.specs.Refusal.{Condition, first}
 use Rattle.sheet.specs.Bytes.{byteAt, fieldAt, fieldLength}
-use Rattle.sheet.specs.Job.{taskLimit, badCount, jobConditions}
+use Rattle.sheet.specs.Job.{taskLimit, badCountNumber, badCount, jobConditions}
 use Rattle.sheet.specs.declared.Platform.{Platform}
 use Rattle.sheet.specs.declared.Job.{Job}
 use Rattle.sheet.specs.declared.Sheet.{Sheet}
@@ -109,15 +109,19 @@ badKinds s =
     || (not (eqb (size s (place s platformKind)) platformLength)
     || not (eqb (size s (place s weightsKind)) (weightsLength (tasks s))))
 
+-- the number of check 6, which a lookup gives too
+abbrev pub badKindsNumber : ℕ
+badKindsNumber = 6
+
 -- checks 1 to 6
 abbrev pub layoutConditions : List ℕ → List Condition
 layoutConditions s =
     record { number = 1; holds = badLength s }
     ∷ record { number = 2; holds = badForm s }
-    ∷ record { number = 3; holds = badCount (tasks s) }
+    ∷ record { number = badCountNumber; holds = badCount (tasks s) }
     ∷ record { number = 4; holds = badSections s }
     ∷ record { number = 5; holds = badPlaces s }
-    ∷ record { number = 6; holds = badKinds s }
+    ∷ record { number = badKindsNumber; holds = badKinds s }
     ∷ []
 
 -- field i of a section, from 0: they follow its kind byte
