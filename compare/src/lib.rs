@@ -1,12 +1,27 @@
-//! An independent comparison for the two-level checkpoint planner.
+//! The proved library compared with a reference written apart from it.
 //!
-//! `reference` is written from document 01 alone, `library` is the boundary
-//! to the proved library, `harness` makes inputs and compares the two. The
-//! benchmark measures the library against `plain`, which has its algorithm,
-//! and `tuned`, which keeps more beside it.
+//! A module uses only modules above it in this list:
+//!
+//! - `types`: the structs that cross the border to the library. Uses nothing.
+//! - `random`: a generator of random numbers. Uses nothing.
+//! - `sheet_writer`, `log_writer`: how a sheet and an event's record are
+//!   written in bytes. They use `types`.
+//! - `reference`: document 01 read literally: `growth`, `stretch`, `sheet`,
+//!   `setting`, `plan`, `run`, `log`, `calls`, each using those before it. It
+//!   uses `types` and nothing else.
+//! - `library`: the calls of the proved library. Uses `types`, `log_writer`
+//!   and, where a stand-in answers for the library, `reference`.
+//! - `harness`: random inputs (`marks`, `jobs`, `sheets`, `runs`), the counts
+//!   (`tally`) and the comparison (`check`). Uses all of the above.
+//!
+//! Two programs use these: `compare` (`main.rs`), and `bench` (`bin/bench`)
+//! with two planners of its own that nothing else uses. `tests/circles.rs`
+//! fails if files use each other in a circle.
 
 pub mod harness;
 pub mod library;
-pub mod plain;
+pub mod log_writer;
+pub mod random;
 pub mod reference;
-pub mod tuned;
+pub mod sheet_writer;
+pub mod types;

@@ -1,9 +1,9 @@
 //! `compare [SEED] [COUNT]`: library against reference on random sheets.
 
 use compare::harness::check;
-use compare::harness::random::Random;
 use compare::harness::tally::Tally;
 use compare::library;
+use compare::random::Random;
 use std::process::ExitCode;
 
 const SEED: u64 = 1;

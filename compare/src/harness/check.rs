@@ -1,24 +1,25 @@
 //! Compares library and reference on one random sheet and runs of it.
 
-use super::expected;
-use super::jobs::{self, Case};
-use super::marks;
-use super::random::Random;
-use super::runs;
-use super::sheets;
-use super::tally::{Call, Tally};
+use crate::harness::jobs::{self, Case};
+use crate::harness::marks;
+use crate::harness::runs;
+use crate::harness::sheets;
+use crate::harness::tally::{Call, Tally};
 use crate::library;
+use crate::random::Random;
+use crate::reference::calls;
 use crate::reference::growth::EXPONENT_LIMIT;
-use crate::reference::plan::{self, TRY_ALL};
-use crate::reference::run::{Event, History, State};
-use crate::reference::setting::{self, LONGEST};
-use crate::reference::sheet::{self, Job, MOST_TASKS};
+use crate::reference::plan::{self, MAX_TRIED_TASKS};
+use crate::reference::run::{self, History};
+use crate::reference::setting::{self, MAX_TIME};
+use crate::reference::sheet;
+use crate::types::{Answer, Event, Job, Outcome, Run, MAX_TASKS};
 
 /// Bytes before and after a lent buffer.
 const GUARD: usize = 16;
 
 /// One sheet at hand, with what is drawn and counted.
-pub struct Check<'a> {
+struct Check<'a> {
     random: &'a mut Random,
     tally: &'a mut Tally,
     sheet: Vec<u8>,
@@ -26,11 +27,11 @@ pub struct Check<'a> {
 
 /// Makes one sheet and compares all calls on it.
 pub fn one(random: &mut Random, tally: &mut Tally) {
-    let case = jobs::job(random, MOST_TASKS);
-    let damaged = random.chance(35);
-    let sheet = match damaged {
-        true => sheets::damaged(random, &case.job),
-        false => sheets::whole(random, &case.job),
+    let case = jobs::any(random, MAX_TASKS);
+    let sheet = if random.chance(35) {
+        sheets::damaged(random, &case.job)
+    } else {
+        sheets::whole(random, &case.job)
     };
     let copy = sheet.clone();
     let mut check = Check { random, tally, sheet };
@@ -45,15 +46,15 @@ impl Check<'_> {
         self.growths();
         self.lookups();
         let job = sheet::read(&self.sheet);
-        self.plan(case.job.tasks());
+        self.plan(case.job.tasks);
         let Ok(job) = job else {
-            let marks = marks::for_sheet(self.random, case.job.tasks());
+            let marks = marks::for_sheet(self.random, case.job.tasks);
             self.price(&marks);
             self.start(&marks);
             return;
         };
         self.tally.read += 1;
-        if job.tasks() <= TRY_ALL {
+        if job.tasks <= MAX_TRIED_TASKS {
             self.edge(plan::by_rows(&job).time);
         }
         self.prices(&job, case);
@@ -69,7 +70,7 @@ impl Check<'_> {
         for y in [any, inside, sized, edge] {
             self.tally.growths += 2;
             let library = (library::growth(y), library::mean_growth(y));
-            let reference = (expected::growth(y), expected::mean_growth(y));
+            let reference = (calls::growth(y), calls::mean_growth(y));
             self.tally.same("growth sums", &[], &y, &library, &reference);
         }
     }
@@ -78,7 +79,7 @@ impl Check<'_> {
         let odd = self.random.pick(&[0, 3, 255, 257, 258, (1 << 32) + 1, u64::MAX]);
         for kind in [1, 2, odd] {
             let library = library::lookup(&self.sheet, kind);
-            let reference = expected::lookup(&self.sheet, kind);
+            let reference = calls::lookup(&self.sheet, kind);
             self.tally.count(Call::Lookup, reference.number);
             self.tally.same("lookup", &self.sheet, &kind, &library, &reference);
         }
@@ -86,7 +87,7 @@ impl Check<'_> {
 
     fn price(&mut self, marks: &[u8]) {
         let library = library::price(&self.sheet, marks);
-        let reference = expected::price(&self.sheet, marks);
+        let reference = calls::price(&self.sheet, marks);
         self.tally.count(Call::Price, reference.number);
         self.tally.same("price", &self.sheet, &marks, &library, &reference);
     }
@@ -99,7 +100,7 @@ impl Check<'_> {
             }
         }
         for _ in 0..2 {
-            let marks = marks::for_sheet(self.random, job.tasks());
+            let marks = marks::for_sheet(self.random, job.tasks);
             self.price(&marks);
         }
         let marks = marks::allowed(self.random, job);
@@ -108,8 +109,8 @@ impl Check<'_> {
 
     /// Counts times just at the limit.
     fn edge(&mut self, time: u128) {
-        self.tally.at_limit += u64::from(time == LONGEST);
-        self.tally.over_limit += u64::from(time == LONGEST + 1);
+        self.tally.at_limit += u64::from(time == MAX_TIME);
+        self.tally.over_limit += u64::from(time == MAX_TIME + 1);
     }
 
     fn buffer_size(&mut self, n: usize) -> usize {
@@ -118,7 +119,7 @@ impl Check<'_> {
             1 => self.random.index(n),
             2..=9 => n,
             10..=14 => n + 1 + self.random.index(8),
-            15..=17 => MOST_TASKS.max(n),
+            15..=17 => MAX_TASKS.max(n),
             _ => 200,
         }
     }
@@ -127,14 +128,15 @@ impl Check<'_> {
     fn plan(&mut self, n: usize) {
         let size = self.buffer_size(n);
         let lent = GUARD..GUARD + size;
-        let mut ours = self.random.bytes(size + 2 * GUARD);
-        let mut theirs = ours.clone();
-        let library = library::plan(&self.sheet, &mut theirs[lent.clone()]);
-        let reference = expected::plan(&self.sheet, &mut ours[lent.clone()]);
+        let mut memory = self.random.bytes(size + 2 * GUARD);
+        let mut library_memory = memory.clone();
+        let library = library::plan(&self.sheet, &mut library_memory[lent.clone()]);
+        let reference = calls::plan(&self.sheet, &mut memory[lent.clone()]);
         self.tally.count(Call::Plan, reference.number);
-        self.tally.same("plan", &self.sheet, &size, &(library, theirs), &(reference, ours.clone()));
+        let (library, expected) = ((library, &library_memory), (reference, &memory));
+        self.tally.same("plan", &self.sheet, &size, &library, &expected);
         if reference.number == 0 {
-            self.price_of_plan(&ours[lent], reference.time);
+            self.price_of_plan(&memory[lent], reference.time);
         }
     }
 
@@ -142,99 +144,100 @@ impl Check<'_> {
     fn price_of_plan(&mut self, buffer: &[u8], time: u64) {
         let marks = &buffer[..usize::from(self.sheet[1])];
         let library = library::price(&self.sheet, marks);
-        let reference = library::Answer { number: 0, time };
+        let reference = Answer { number: 0, time };
         self.tally.count(Call::Price, 0);
         self.tally.same("price of the plan", &self.sheet, &marks, &library, &reference);
     }
 
-    fn start(&mut self, marks: &[u8]) -> Option<State> {
+    fn start(&mut self, marks: &[u8]) -> Option<Run> {
         let library = library::start(&self.sheet, marks);
-        let reference = expected::start(&self.sheet, marks);
-        self.tally.count(Call::Start, reference.0);
+        let reference = calls::start(&self.sheet, marks);
+        self.tally.count(Call::Start, reference.number);
         self.tally.same("start", &self.sheet, &marks, &library, &reference);
-        (reference.0 == 0).then_some(reference.1)
+        (reference.number == 0).then_some(reference.run)
     }
 
     fn runs(&mut self, job: &Job) {
-        let marks = marks::for_sheet(self.random, job.tasks());
+        let marks = marks::for_sheet(self.random, job.tasks);
         self.start(&marks);
         let marks = marks::allowed(self.random, job);
         if let Some(fresh) = self.start(&marks) {
-            self.run(&fresh);
+            self.follow_run(&fresh);
         }
     }
 
     /// A run from its start, with turns aside to other states and to logs.
-    fn run(&mut self, fresh: &State) {
-        let mut history = History::from(fresh);
-        let steps = self.random.between(1, 3 * fresh.tasks as u64 + 6).min(80);
+    fn follow_run(&mut self, fresh: &Run) {
+        let mut history = History::new(fresh);
+        let steps = self.random.between(1, 3 * fresh.job.tasks as u64 + 6).min(80);
         for _ in 0..steps {
-            let state = history.state();
-            let event = runs::event(self.random, &state);
-            let reference = expected::next(&mut history, event);
-            self.step(&state, event, reference);
+            let run = history.run();
+            let event = runs::event(self.random, &run);
+            let reference = calls::next(&mut history, event);
+            self.step(&run, event, reference);
             match self.random.below(8) {
-                0 => self.near_total(&state),
-                1 => self.changed(&state),
-                2 => self.log(&state),
+                0 => self.near_total(&run),
+                1 => self.changed(&run),
+                2 => self.log(&run),
                 _ => {}
             }
-            if state.finished() && self.random.chance(50) {
+            if run::is_finished(&run) && self.random.chance(50) {
                 break;
             }
         }
-        let last = history.state();
+        let last = history.run();
         self.near_total(&last);
         self.changed(&last);
         self.log(&last);
         self.log(fresh);
     }
 
-    fn step(&mut self, state: &State, event: Event, reference: library::Outcome) {
-        let library = library::step(state, event);
-        self.tally.count(Call::Step, reference.0);
-        self.tally.same("step", &self.sheet, &(state, event), &library, &reference);
+    fn step(&mut self, run: &Run, event: Event, reference: Outcome) {
+        let library = library::step(run, event);
+        self.tally.count(Call::Step, reference.number);
+        self.tally.same("step", &self.sheet, &(run, event), &library, &reference);
     }
 
-    fn lone_step(&mut self, state: &State, event: Event) -> State {
-        let reference = expected::step(state, event);
-        self.step(state, event, reference);
-        reference.1
+    fn lone_step(&mut self, run: &Run, event: Event) -> Run {
+        let reference = calls::step(run, event);
+        self.step(run, event, reference);
+        reference.run
     }
 
-    fn near_total(&mut self, state: &State) {
-        let event = runs::event(self.random, state);
-        let near = runs::near_total(self.random, state, event);
+    fn near_total(&mut self, run: &Run) {
+        let event = runs::event(self.random, run);
+        let near = runs::near_total(self.random, run, event);
         self.lone_step(&near, event);
     }
 
-    fn changed(&mut self, state: &State) {
-        let mut changed = runs::changed(self.random, state);
+    fn changed(&mut self, run: &Run) {
+        let mut changed = runs::changed(self.random, run);
         for _ in 0..3 {
             let event = runs::event(self.random, &changed);
             changed = self.lone_step(&changed, event);
-            if changed.broken() {
+            if run::is_broken(&changed) {
                 break;
             }
         }
     }
 
-    fn log(&mut self, state: &State) {
-        let state = match self.random.below(10) {
-            0..=1 => runs::changed(self.random, state),
+    fn log(&mut self, run: &Run) {
+        let run = match self.random.below(10) {
+            0..=1 => runs::changed(self.random, run),
             2 => {
-                let event = runs::event(self.random, state);
-                runs::near_total(self.random, state, event)
+                let event = runs::event(self.random, run);
+                runs::near_total(self.random, run, event)
             }
-            _ => *state,
+            _ => *run,
         };
-        let log = match self.random.chance(35) {
-            true => runs::damaged_log(self.random, &state),
-            false => runs::log(self.random, &state),
+        let log = if self.random.chance(35) {
+            runs::damaged_log(self.random, &run)
+        } else {
+            runs::log(self.random, &run)
         };
-        let library = library::follow(&state, &log);
-        let reference = expected::follow(&state, &log);
-        self.tally.count(Call::Follow, reference.0);
-        self.tally.same("follow", &self.sheet, &(state, log), &library, &reference);
+        let library = library::follow(&run, &log);
+        let reference = calls::follow(&run, &log);
+        self.tally.count(Call::Follow, reference.number);
+        self.tally.same("follow", &self.sheet, &(run, log), &library, &reference);
     }
 }

@@ -1,10 +1,10 @@
 //! Random marks, whole and damaged.
 
-use super::random::Random;
-use crate::reference::setting;
-use crate::reference::sheet::Job;
+use crate::random::Random;
+use crate::reference::stretch;
+use crate::types::Job;
 
-/// n marks, the last of them 3, with a liking of its own for each.
+/// n marks, the last of them 3, few or many of each kind.
 pub fn any(r: &mut Random, n: usize) -> Vec<u8> {
     let style = r.below(5);
     let mut mark = || match style {
@@ -21,11 +21,11 @@ pub fn any(r: &mut Random, n: usize) -> Vec<u8> {
 
 /// Marks with every stretch allowed, if each task alone is.
 pub fn allowed(r: &mut Random, job: &Job) -> Vec<u8> {
-    let mut marks = any(r, job.tasks());
+    let mut marks = any(r, job.tasks);
     let mut from = 0;
-    for v in 1..=job.tasks() {
-        let next = (v + 1).min(job.tasks());
-        if marks[v - 1] == 0 && !setting::allowed(&job.platform, job.weight(from, next)) {
+    for v in 1..=job.tasks {
+        let next = (v + 1).min(job.tasks);
+        if marks[v - 1] == 0 && !stretch::allowed(&job.platform, job.weight(from, next)) {
             marks[v - 1] = r.between(1, 3) as u8;
         }
         if marks[v - 1] != 0 {

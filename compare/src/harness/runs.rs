@@ -1,37 +1,38 @@
 //! Events, states and logs for runs, in turn and out of turn.
 
-use super::random::Random;
-use crate::reference::log::{self, RECORD};
-use crate::reference::run::{self, Event, State, MOST_TOTAL};
+use crate::log_writer;
+use crate::random::Random;
+use crate::reference::run::{self, MAX_TOTAL};
+use crate::types::{Event, Job, Run, MAX_TASKS, RECORD_SIZE};
 
 const ANY_LOST: [u32; 5] = [0, 1, 1 << 30, (1 << 30) + 1, u32::MAX];
 
 /// The running task's weight, or some weight if none is running.
-fn running(state: &State) -> u32 {
-    state.weights[state.position.min(63)]
+fn running(run: &Run) -> u32 {
+    run.job.weights[run.place.position.min(MAX_TASKS - 1)]
 }
 
 /// An event that is in turn.
-fn in_turn(r: &mut Random, state: &State) -> Event {
+fn in_turn(r: &mut Random, run: &Run) -> Event {
     let smooth = r.chance(80);
-    match (state.awaiting, smooth) {
+    match (run.place.awaiting, smooth) {
         (true, true) => Event::Passed,
         (true, false) => Event::Failed,
         (false, true) => Event::Done,
-        (false, false) => Event::Stopped(r.between(0, u64::from(running(state))) as u32),
+        (false, false) => Event::Stopped(r.between(0, u64::from(running(run))) as u32),
     }
 }
 
-fn stopped_at_edge(r: &mut Random, state: &State) -> Event {
-    let weight = running(state);
+fn stopped_at_edge(r: &mut Random, run: &Run) -> Event {
+    let weight = running(run);
     Event::Stopped(r.pick(&[weight, weight.wrapping_add(1), weight / 2, u32::MAX]))
 }
 
 /// Any event, for most of the time in turn.
-pub fn event(r: &mut Random, state: &State) -> Event {
+pub fn event(r: &mut Random, run: &Run) -> Event {
     match r.below(100) {
-        0..=87 => in_turn(r, state),
-        88..=91 => stopped_at_edge(r, state),
+        0..=87 => in_turn(r, run),
+        88..=91 => stopped_at_edge(r, run),
         _ => {
             let lost = r.pick(&ANY_LOST);
             r.pick(&[Event::Done, Event::Passed, Event::Failed, Event::Stopped(lost)])
@@ -41,31 +42,33 @@ pub fn event(r: &mut Random, state: &State) -> Event {
 
 /// A state whose total with the next event meets 2^40, passes it by one, or
 /// stays one below.
-pub fn near_total(r: &mut Random, state: &State, event: Event) -> State {
-    let Ok(next) = run::step(state, event) else { return *state };
-    let ticks = next.sums.total() - state.sums.total();
-    let target = MOST_TOTAL - 1 + u128::from(r.below(4));
-    let mut near = *state;
-    let missing = target.saturating_sub(ticks + state.sums.total()) as u64;
+pub fn near_total(r: &mut Random, run: &Run, event: Event) -> Run {
+    let Ok(next) = run::step(run, event) else { return *run };
+    let ticks = next.place.sums.total() - run.place.sums.total();
+    let target = MAX_TOTAL - 1 + u128::from(r.below(4));
+    let mut near = *run;
+    let missing = target.saturating_sub(ticks + run.place.sums.total()) as u64;
     *sum_field(r, &mut near) += missing;
     near
 }
 
 /// One of the four sums that are not tied to the position.
-fn sum_field<'a>(r: &mut Random, state: &'a mut State) -> &'a mut u64 {
+fn sum_field<'a>(r: &mut Random, run: &'a mut Run) -> &'a mut u64 {
+    let sums = &mut run.place.sums;
     match r.below(4) {
-        0 => &mut state.sums.redone,
-        1 => &mut state.sums.verify,
-        2 => &mut state.sums.saves,
-        _ => &mut state.sums.recovery,
+        0 => &mut sums.redone,
+        1 => &mut sums.verify,
+        2 => &mut sums.saves,
+        _ => &mut sums.recovery,
     }
 }
 
-fn change_sheet_value(r: &mut Random, state: &mut State) {
+fn change_sheet_value(r: &mut Random, run: &mut Run) {
     let over = r.pick(&[(1 << 30) + 1, u32::MAX, 1 << 30]);
     let rate = r.draw() as u32;
-    let at = r.index(64);
-    let p = &mut state.platform;
+    let at = r.index(MAX_TASKS);
+    let tasks = run.job.tasks.clamp(1, MAX_TASKS);
+    let Job { platform: p, weights, .. } = &mut run.job;
     match r.below(10) {
         0 => p.cd = over,
         1 => p.cm = over,
@@ -74,89 +77,89 @@ fn change_sheet_value(r: &mut Random, state: &mut State) {
         4 => p.rm = over,
         5 => p.failstop = rate,
         6 => p.silent = rate,
-        7 => state.weights[at % state.tasks.clamp(1, 64)] = 0,
-        8 => state.weights[at % state.tasks.clamp(1, 64)] = over,
-        _ => state.weights[at] = state.weights[at].wrapping_add(1),
+        7 => weights[at % tasks] = 0,
+        8 => weights[at % tasks] = over,
+        _ => weights[at] = weights[at].wrapping_add(1),
     }
 }
 
-fn change_place(r: &mut Random, state: &mut State) {
+fn change_place(r: &mut Random, run: &mut Run) {
+    let (job, place) = (&run.job, &mut run.place);
     match r.below(6) {
-        0 => state.position = r.pick(&[64, 65, usize::MAX, state.tasks.wrapping_add(1)]),
-        1 => state.position = r.index(65),
-        2 => state.awaiting = !state.awaiting,
-        3 => state.sums.kept = state.sums.kept.wrapping_add(1),
-        4 => state.sums.kept = state.sums.kept.wrapping_sub(1),
+        0 => place.position = r.pick(&[64, 65, usize::MAX, job.tasks.wrapping_add(1)]),
+        1 => place.position = r.index(MAX_TASKS + 1),
+        2 => place.awaiting = !place.awaiting,
+        3 => place.sums.kept = place.sums.kept.wrapping_add(1),
+        4 => place.sums.kept = place.sums.kept.wrapping_sub(1),
         // Another position whose kept fits it.
         _ => {
-            state.position = r.index(state.tasks.min(64) + 1);
-            let done = &state.weights[..state.position];
-            state.sums.kept = done.iter().map(|&w| u64::from(w)).sum();
-            state.awaiting = r.chance(50);
+            place.position = r.index(job.tasks.min(MAX_TASKS) + 1);
+            place.sums.kept = job.weight(0, place.position) as u64;
+            place.awaiting = r.chance(50);
         }
     }
 }
 
-fn change_sums(r: &mut Random, state: &mut State) {
+fn change_sums(r: &mut Random, run: &mut Run) {
     let value = match r.below(4) {
         0 => u64::MAX,
-        1 => (MOST_TOTAL as u64).saturating_sub(state.sums.total() as u64) + r.below(3),
-        2 => MOST_TOTAL as u64 + 1,
+        1 => (MAX_TOTAL as u64).saturating_sub(run.place.sums.total() as u64) + r.below(3),
+        2 => MAX_TOTAL as u64 + 1,
         _ => r.sized(41),
     };
-    *sum_field(r, state) = value;
+    *sum_field(r, run) = value;
     if r.chance(20) {
-        *sum_field(r, state) = u64::MAX - r.below(3);
+        *sum_field(r, run) = u64::MAX - r.below(3);
     }
 }
 
-fn change_marks(r: &mut Random, state: &mut State) {
-    let n = state.tasks.clamp(1, 64);
+fn change_marks(r: &mut Random, run: &mut Run) {
+    let n = run.job.tasks.clamp(1, MAX_TASKS);
     match r.below(4) {
-        0 => state.marks[r.index(n)] = r.pick(&[4, 255, 128]),
-        1 => state.marks[n - 1] = r.between(0, 2) as u8,
-        2 => state.marks[r.index(n)] = r.between(0, 3) as u8,
-        _ => state.marks[..n - 1].fill(0),
+        0 => run.marks[r.index(n)] = r.pick(&[4, 255, 128]),
+        1 => run.marks[n - 1] = r.between(0, 2) as u8,
+        2 => run.marks[r.index(n)] = r.between(0, 3) as u8,
+        _ => run.marks[..n - 1].fill(0),
     }
 }
 
 /// Entries past task n, which are carried along unread.
-fn change_unread(r: &mut Random, state: &mut State) {
-    for at in state.tasks.min(64)..64 {
-        state.weights[at] = r.draw() as u32;
-        state.marks[at] = r.byte();
+fn change_unread(r: &mut Random, run: &mut Run) {
+    for at in run.job.tasks.min(MAX_TASKS)..MAX_TASKS {
+        run.job.weights[at] = r.draw() as u32;
+        run.marks[at] = r.byte();
     }
 }
 
 /// A state changed in one way or two; it may be broken or not.
-pub fn changed(r: &mut Random, state: &State) -> State {
-    let mut state = *state;
+pub fn changed(r: &mut Random, run: &Run) -> Run {
+    let mut run = *run;
     for _ in 0..r.between(1, 2) {
         match r.below(6) {
-            0 => state.tasks = r.pick(&[0, 1, 63, 64, 65, usize::MAX, state.tasks + 1]),
-            1 => change_sheet_value(r, &mut state),
-            2 => change_place(r, &mut state),
-            3 => change_sums(r, &mut state),
-            4 => change_marks(r, &mut state),
-            _ => change_unread(r, &mut state),
+            0 => run.job.tasks = r.pick(&[0, 1, 63, 64, 65, usize::MAX, run.job.tasks + 1]),
+            1 => change_sheet_value(r, &mut run),
+            2 => change_place(r, &mut run),
+            3 => change_sums(r, &mut run),
+            4 => change_marks(r, &mut run),
+            _ => change_unread(r, &mut run),
         }
-        state.tasks = state.tasks.min(usize::MAX - 1);
+        run.job.tasks = run.job.tasks.min(usize::MAX - 1);
     }
-    state
+    run
 }
 
-/// A log of events from a state, mostly in turn.
-pub fn log(r: &mut Random, state: &State) -> Vec<u8> {
+/// A log of events from a run, mostly in turn.
+pub fn log(r: &mut Random, run: &Run) -> Vec<u8> {
     let mut bytes = Vec::new();
-    let mut now = *state;
+    let mut now = *run;
     for _ in 0..r.below(12) {
-        if now.position >= 64 {
+        if now.place.position >= MAX_TASKS {
             break;
         }
         let event = if r.chance(97) { in_turn(r, &now) } else { event(r, &now) };
-        bytes.extend(log::record(event));
+        bytes.extend(log_writer::record(event));
         now = run::step(&now, event).unwrap_or(now);
-        if now.finished() && r.chance(90) {
+        if run::is_finished(&now) && r.chance(90) {
             break;
         }
     }
@@ -164,14 +167,14 @@ pub fn log(r: &mut Random, state: &State) -> Vec<u8> {
 }
 
 /// A log with a cut, unknown or wrongly filled record.
-pub fn damaged_log(r: &mut Random, state: &State) -> Vec<u8> {
-    let mut bytes = log(r, state);
-    let records = bytes.len() / RECORD;
+pub fn damaged_log(r: &mut Random, run: &Run) -> Vec<u8> {
+    let mut bytes = log(r, run);
+    let records = bytes.len() / RECORD_SIZE;
     if records == 0 {
         let size = r.between(1, 12) as usize;
         return r.bytes(size);
     }
-    let at = RECORD * r.index(records);
+    let at = RECORD_SIZE * r.index(records);
     match r.below(4) {
         0 => bytes.truncate(at + r.between(1, 4) as usize),
         1 => bytes[at] = r.pick(&[0, 5, 6, 255, b'1']),

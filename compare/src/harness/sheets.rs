@@ -1,17 +1,8 @@
-//! Sheets from contents, whole and damaged.
+//! Sheets of jobs, whole and damaged.
 
-use super::random::Random;
-use crate::reference::sheet::{Job, Platform};
-
-fn fields(p: &Platform) -> [u32; 7] {
-    [p.failstop, p.silent, p.cd, p.cm, p.v, p.rd, p.rm]
-}
-
-fn section(kind: u8, values: &[u32]) -> Vec<u8> {
-    let mut bytes = vec![kind];
-    values.iter().for_each(|v| bytes.extend(v.to_le_bytes()));
-    bytes
-}
+use crate::random::Random;
+use crate::sheet_writer::{self, put, HEADER_SIZE, PAIRS};
+use crate::types::Job;
 
 /// A gap of junk before, between or after the sections, mostly none.
 fn gap(r: &mut Random) -> Vec<u8> {
@@ -19,59 +10,40 @@ fn gap(r: &mut Random) -> Vec<u8> {
     r.bytes(size)
 }
 
-fn put(sheet: &mut [u8], at: usize, value: u32) {
-    sheet[at..at + 4].copy_from_slice(&value.to_le_bytes());
-}
-
 fn get(sheet: &[u8], at: usize) -> u32 {
     u32::from_le_bytes([sheet[at], sheet[at + 1], sheet[at + 2], sheet[at + 3]])
 }
 
-/// A header and two sections, in this order.
-fn assembled(r: &mut Random, tasks: usize, first: &[u8], second: &[u8]) -> Vec<u8> {
-    let mut sheet = vec![1, tasks as u8, 2, 0];
-    sheet.resize(20, 0);
-    for (i, part) in [first, second].into_iter().enumerate() {
-        sheet.extend(gap(r));
-        let at = sheet.len() as u32;
-        put(&mut sheet, 4 + 8 * i, at);
-        put(&mut sheet, 8 + 8 * i, part.len() as u32);
-        sheet.extend(part);
-    }
-    sheet.extend(gap(r));
-    sheet
+/// A header and two sections, with gaps.
+fn with_gaps(r: &mut Random, tasks: usize, sections: [&[u8]; 2]) -> Vec<u8> {
+    let gaps = [gap(r), gap(r), gap(r)];
+    sheet_writer::assembled(tasks, sections, gaps.each_ref().map(Vec::as_slice))
 }
 
-/// The sheet of a content, sections in either order.
+/// The sheet of a job, sections in either order.
 pub fn whole(r: &mut Random, job: &Job) -> Vec<u8> {
-    let platform = section(1, &fields(&job.platform));
-    let weights = section(2, &job.weights);
-    if r.chance(50) {
-        assembled(r, job.tasks(), &platform, &weights)
-    } else {
-        assembled(r, job.tasks(), &weights, &platform)
-    }
+    let platform = sheet_writer::platform_section(&job.platform);
+    let weights = sheet_writer::weights_section(job.task_weights());
+    let platform_first = r.chance(50);
+    let sections = if platform_first { [&platform, &weights] } else { [&weights, &platform] };
+    with_gaps(r, job.tasks, sections.map(Vec::as_slice))
 }
 
-/// A sheet of the content that has a wrong size, kind or count in a section.
+/// A sheet of the job that has a wrong size, kind or count in a section.
 fn wrong_sections(r: &mut Random, job: &Job) -> Vec<u8> {
-    let mut platform = section(1, &fields(&job.platform));
-    let mut weights = section(2, &job.weights);
-    let mut tasks = job.tasks();
+    let mut platform = sheet_writer::platform_section(&job.platform);
+    let mut weights = sheet_writer::weights_section(job.task_weights());
+    let mut tasks = job.tasks;
     match r.below(7) {
         0 => platform[0] = r.pick(&[0, 2, 3, 255]),
         1 => weights[0] = r.pick(&[0, 1, 3, 255]),
         2 => platform.push(0),
-        3 => {
-            platform.pop();
-        }
+        3 => platform.truncate(platform.len() - 1),
         4 => weights.push(0),
-        5 => {
-            weights.pop();
-        }
+        5 => weights.truncate(weights.len() - 1),
         _ => tasks = r.between(1, 64) as usize,
     }
-    assembled(r, tasks, &platform, &weights)
+    with_gaps(r, tasks, [&platform, &weights])
 }
 
 fn flip(r: &mut Random, sheet: &mut [u8], from: usize, to: usize) {
@@ -82,7 +54,7 @@ fn flip(r: &mut Random, sheet: &mut [u8], from: usize, to: usize) {
 /// Changes to the pairs of offset and length.
 fn shift_pairs(r: &mut Random, sheet: &mut [u8]) {
     let size = sheet.len() as u32;
-    let pair = r.pick(&[4, 12]);
+    let pair = r.pick(&PAIRS);
     let (start, length) = (get(sheet, pair), get(sheet, pair + 4));
     match r.below(9) {
         0 => put(sheet, pair, start.wrapping_add(1)),
@@ -143,7 +115,7 @@ fn odd_header(r: &mut Random, sheet: &mut [u8]) {
 /// A sheet with some damage, at times in two places.
 pub fn damaged(r: &mut Random, job: &Job) -> Vec<u8> {
     let mut sheet = damaged_once(r, job);
-    if sheet.len() >= 20 && r.chance(35) {
+    if sheet.len() >= HEADER_SIZE && r.chance(35) {
         match r.below(3) {
             0 => shift_pairs(r, &mut sheet),
             _ => odd_header(r, &mut sheet),
@@ -160,8 +132,8 @@ fn damaged_once(r: &mut Random, job: &Job) -> Vec<u8> {
         4..=8 => shift_pairs(r, &mut sheet),
         9..=12 => return wrong_sections(r, job),
         13..=15 => return resized(r, sheet),
-        16 => flip(r, &mut sheet, 4, 20),
-        17 => flip(r, &mut sheet, 20, size),
+        16 => flip(r, &mut sheet, 4, HEADER_SIZE),
+        17 => flip(r, &mut sheet, HEADER_SIZE, size),
         18 => flip(r, &mut sheet, 0, size),
         _ => {
             let count = r.index(200);

@@ -1,10 +1,7 @@
-//! Logs of 5-byte records.
+//! Following a log, record by record.
 
-use super::run::{Event, History, State};
-use super::Refusal;
-
-/// Bytes of a record.
-pub const RECORD: usize = 5;
+use crate::reference::run::{self, History};
+use crate::types::{Event, Refusal, Run, RECORD_SIZE};
 
 /// Refusal 12, or the event of a record.
 fn event(record: &[u8]) -> Result<Event, Refusal> {
@@ -20,25 +17,13 @@ fn event(record: &[u8]) -> Result<Event, Refusal> {
 }
 
 /// A log from a state: 12 for each record, then 21 to 25 for its event.
-pub fn follow(state: &State, log: &[u8]) -> Result<State, Refusal> {
-    if log.is_empty() && state.broken() {
+pub fn follow(run: &Run, log: &[u8]) -> Result<Run, Refusal> {
+    if log.is_empty() && run::is_broken(run) {
         return Err(21);
     }
-    let mut history = History::from(state);
-    for record in log.chunks(RECORD) {
+    let mut history = History::new(run);
+    for record in log.chunks(RECORD_SIZE) {
         history.step(event(record)?)?;
     }
-    Ok(history.state())
-}
-
-/// The record of an event.
-pub fn record(event: Event) -> [u8; RECORD] {
-    let (code, lost) = match event {
-        Event::Done => (1, 0),
-        Event::Passed => (2, 0),
-        Event::Failed => (3, 0),
-        Event::Stopped(lost) => (4, lost),
-    };
-    let [a, b, c, d] = lost.to_le_bytes();
-    [code, a, b, c, d]
+    Ok(history.run())
 }

@@ -1,32 +1,19 @@
-//! The plan: every setting for up to 6 tasks, a dynamic program above.
+//! The plan: every setting is tried for up to 6 tasks, and rows of least
+//! times are filled from the equations above that.
 
-use super::setting::{self, growths, stretch_time, Before, Growths, CEILING};
-use super::sheet::{self, Job};
-use super::Refusal;
+use crate::reference::setting::{self, CEILING};
+use crate::reference::sheet;
+use crate::reference::stretch::{self, Before, Table};
+use crate::types::{Job, Refusal};
 
 /// Up to this many tasks every setting is tried.
-pub const TRY_ALL: usize = 6;
+pub const MAX_TRIED_TASKS: usize = 6;
 
-/// A setting and its time.
+/// A setting and its time, which may be beyond what an answer holds.
 #[derive(Clone, Debug, PartialEq, Eq)]
 pub struct Plan {
     pub time: u128,
     pub marks: Vec<u8>,
-}
-
-/// The growths of every stretch, worked out once for a sheet.
-struct Pairs(Vec<Vec<Option<Growths>>>);
-
-impl Pairs {
-    fn new(job: &Job) -> Pairs {
-        let n = job.tasks();
-        let row = |u: usize| (0..=n).map(move |v| if u < v { growths(job, u, v) } else { None });
-        Pairs((0..=n).map(|u| row(u).collect()).collect())
-    }
-
-    fn get(&self, u: usize, v: usize) -> Option<Growths> {
-        self.0[u][v]
-    }
 }
 
 /// Positions with a mark of `least` or more, from the end down, then 0.
@@ -38,7 +25,7 @@ fn positions(marks: &[u8], least: u8) -> Vec<usize> {
 }
 
 /// Whether a goes before b among settings of equal time.
-pub fn wins(a: &[u8], b: &[u8]) -> bool {
+pub fn wins_tie(a: &[u8], b: &[u8]) -> bool {
     for least in [3, 2, 1] {
         let (a, b) = (positions(a, least), positions(b, least));
         for (x, y) in a.iter().zip(&b) {
@@ -58,19 +45,18 @@ fn setting_of(code: usize, n: usize) -> Vec<u8> {
 
 /// The plan by trying every setting of a sheet that passed 1 to 8.
 pub fn by_trying(job: &Job) -> Plan {
-    let n = job.tasks();
-    let pairs = Pairs::new(job);
-    let of = |u, v| pairs.get(u, v).expect("an allowed setting");
+    let table = Table::new(job);
+    let growths = |u, v| table.get(u, v).expect("an allowed setting");
     let mut best: Option<Plan> = None;
-    for code in 0..1usize << (2 * (n - 1)) {
-        let marks = setting_of(code, n);
-        if !setting::all_allowed(job, &marks) {
+    for code in 0..1usize << (2 * (job.tasks - 1)) {
+        let marks = setting_of(code, job.tasks);
+        if !setting::allowed(job, &marks) {
             continue;
         }
-        let time = setting::time_with(&job.platform, &marks, of);
+        let time = setting::time_with(&job.platform, &marks, growths);
         let better = match &best {
             None => true,
-            Some(b) => time < b.time || (time == b.time && wins(&marks, &b.marks)),
+            Some(b) => time < b.time || (time == b.time && wins_tie(&marks, &b.marks)),
         };
         if better {
             best = Some(Plan { time, marks });
@@ -79,10 +65,10 @@ pub fn by_trying(job: &Job) -> Plan {
     best.expect("all marks 3 is allowed")
 }
 
-/// A partial setting: its time, then its marked positions as bits (3; 2 or 3;
-/// any mark), position p at bit p - 1. Of two lists from the end down the one
-/// with the earlier position at the first difference is the smaller number,
-/// so the derived order is least time first, then the rule for ties.
+/// A part of a setting: its time, then its marked positions as bits (3; 2 or
+/// 3; any mark), position p at bit p - 1. Of two lists from the end down the
+/// one with the earlier position at the first difference is the smaller
+/// number, so the derived order is least time first, then the rule for ties.
 #[derive(Clone, Copy, Debug, PartialEq, Eq, PartialOrd, Ord)]
 struct Part {
     time: u128,
@@ -91,100 +77,110 @@ struct Part {
     any: u64,
 }
 
-const NOTHING: Part = Part { time: 0, disk: 0, mem: 0, any: 0 };
+/// The least part to each position, or none yet.
+type Row = Vec<Option<Part>>;
+
+impl Part {
+    const EMPTY: Part = Part { time: 0, disk: 0, mem: 0, any: 0 };
+
+    /// This part, then the next one.
+    fn then(self, next: Part) -> Part {
+        Part {
+            time: (self.time + next.time).min(CEILING),
+            disk: self.disk | next.disk,
+            mem: self.mem | next.mem,
+            any: self.any | next.any,
+        }
+    }
+
+    fn marks(&self, n: usize) -> Vec<u8> {
+        let has = |set: u64, p: usize| u8::from(set & bit(p) != 0);
+        (1..=n).map(|p| has(self.any, p) + has(self.mem, p) + has(self.disk, p)).collect()
+    }
+}
 
 fn bit(position: usize) -> u64 {
     1 << (position - 1)
 }
 
-/// Two parts, one after the other.
-fn joined(a: Part, b: Part) -> Part {
-    let time = (a.time + b.time).min(CEILING);
-    Part { time, disk: a.disk | b.disk, mem: a.mem | b.mem, any: a.any | b.any }
+/// A row with the empty part at its start.
+fn row_from(start: usize, n: usize) -> Row {
+    let mut row = vec![None; n + 1];
+    row[start] = Some(Part::EMPTY);
+    row
 }
 
-fn keep_less(best: &mut Option<Part>, part: Part) {
+fn keep_least(best: &mut Option<Part>, part: Part) {
     if best.is_none_or(|b| part < b) {
         *best = Some(part);
     }
 }
 
-/// The best part from memory copy m to each later position by verifications
-/// alone, `mem` being M'. Q grows strictly with Q', M with M' and D with D(d),
-/// so a least setting is made of least parts, ties included.
-fn verified(job: &Job, pairs: &Pairs, d: usize, m: usize, mem: u128) -> Vec<Option<Part>> {
-    let n = job.tasks();
-    let mut row = vec![None; n + 1];
-    row[m] = Some(NOTHING);
-    for v in m + 1..=n {
+/// Q: the least parts from memory copy m by verifications alone, `mem` being
+/// M'. Q grows strictly with Q', M with M' and D with D(d), so a least setting
+/// is made of least parts, ties included.
+fn verification_row(job: &Job, table: &Table, d: usize, m: usize, mem: u128) -> Row {
+    let mut row = row_from(m, job.tasks);
+    for v in m + 1..=job.tasks {
         let through = |u: usize| {
-            let (s, so_far): (Growths, Part) = (pairs.get(u, v)?, row[u]?);
+            let (growths, so_far): (_, Part) = (table.get(u, v)?, row[u]?);
             let before = Before { d, m, mem, q: so_far.time };
-            let time = stretch_time(&job.platform, &s, &before);
-            Some(joined(so_far, Part { time, any: bit(v), ..NOTHING }))
+            let time = stretch::time(&job.platform, &growths, &before);
+            Some(so_far.then(Part { time, any: bit(v), ..Part::EMPTY }))
         };
         row[v] = (m..v).filter_map(through).min();
     }
     row
 }
 
-/// The best part from disk copy d to a memory copy at each later position.
-fn remembered(job: &Job, pairs: &Pairs, d: usize) -> Vec<Option<Part>> {
-    let n = job.tasks();
-    let mut row = vec![None; n + 1];
-    row[d] = Some(NOTHING);
-    for m in d..n {
+/// M: the least parts from disk copy d to a memory copy.
+fn memory_row(job: &Job, table: &Table, d: usize) -> Row {
+    let mut row = row_from(d, job.tasks);
+    for m in d..job.tasks {
         let Some(so_far) = row[m] else { continue };
-        let tail = verified(job, pairs, d, m, so_far.time);
-        for v in m + 1..=n {
-            let Some(part) = tail[v] else { continue };
-            let copy = Part { time: u128::from(job.platform.cm), mem: bit(v), ..NOTHING };
-            keep_less(&mut row[v], joined(joined(so_far, part), copy));
+        let verified = verification_row(job, table, d, m, so_far.time);
+        for v in m + 1..=job.tasks {
+            let Some(part) = verified[v] else { continue };
+            let copy = Part { time: u128::from(job.platform.cm), mem: bit(v), ..Part::EMPTY };
+            keep_least(&mut row[v], so_far.then(part).then(copy));
         }
     }
     row
 }
 
-fn marks_of(part: Part, n: usize) -> Vec<u8> {
-    let has = |set: u64, p: usize| u8::from(set & bit(p) != 0);
-    (1..=n).map(|p| has(part.any, p) + has(part.mem, p) + has(part.disk, p)).collect()
-}
-
-/// The plan by rows over positions, for a sheet that passed 1 to 8.
-pub fn by_rows(job: &Job) -> Plan {
-    let n = job.tasks();
-    let pairs = Pairs::new(job);
-    let mut row = vec![None; n + 1];
-    row[0] = Some(NOTHING);
-    for d in 0..n {
+/// D: the least parts from the start to a disk copy.
+fn disk_row(job: &Job, table: &Table) -> Row {
+    let mut row = row_from(0, job.tasks);
+    for d in 0..job.tasks {
         let Some(so_far) = row[d] else { continue };
-        let tail = remembered(job, &pairs, d);
-        for v in d + 1..=n {
-            let Some(part) = tail[v] else { continue };
-            let copy = Part { time: u128::from(job.platform.cd), disk: bit(v), ..NOTHING };
-            keep_less(&mut row[v], joined(joined(so_far, part), copy));
+        let saved = memory_row(job, table, d);
+        for v in d + 1..=job.tasks {
+            let Some(part) = saved[v] else { continue };
+            let copy = Part { time: u128::from(job.platform.cd), disk: bit(v), ..Part::EMPTY };
+            keep_least(&mut row[v], so_far.then(part).then(copy));
         }
     }
-    let best = row[n].expect("all marks 3 is allowed");
-    Plan { time: best.time, marks: marks_of(best, n) }
+    row
 }
 
-/// The plan of a sheet that passed 1 to 8.
-pub fn best(job: &Job) -> Plan {
-    if job.tasks() <= TRY_ALL {
-        by_trying(job)
-    } else {
-        by_rows(job)
-    }
+/// The plan by rows, `table` having the growths of the job's stretches.
+pub fn by_rows_with(job: &Job, table: &Table) -> Plan {
+    let best = disk_row(job, table)[job.tasks].expect("all marks 3 is allowed");
+    Plan { time: best.time, marks: best.marks(job.tasks) }
+}
+
+/// The plan by rows of a sheet that passed 1 to 8.
+pub fn by_rows(job: &Job) -> Plan {
+    by_rows_with(job, &Table::new(job))
 }
 
 /// The plan for a buffer of a size: refusals 1 to 8, 11 and 13.
 pub fn plan(sheet: &[u8], buffer_size: usize) -> Result<(u64, Vec<u8>), Refusal> {
     let job = sheet::read(sheet)?;
-    if buffer_size < job.tasks() {
+    if buffer_size < job.tasks {
         return Err(11);
     }
-    let best = best(&job);
-    let time = setting::within(best.time)?;
+    let best = if job.tasks <= MAX_TRIED_TASKS { by_trying(&job) } else { by_rows(&job) };
+    let time = setting::check_time(best.time)?;
     Ok((time, best.marks))
 }

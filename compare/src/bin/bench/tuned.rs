@@ -1,12 +1,12 @@
-//! A quicker planner in Rust, for the benchmark: the same rows, with the part
-//! of the memory recovery kept beside the growth sums of each pair of ends, and
-//! no positions before until the walk back asks for them.
+//! A quicker planner: the same rows, with the part of the memory recovery kept
+//! beside the growth sums of each pair of ends, and no positions before until
+//! the walk back asks for them.
 //!
 //! A time beyond the limit is kept as NONE = 2^34. A growth is under 2^29.8
 //! and a time with a recovery at most 2^34 + 2^30, so products fit 64 bits.
 
 use crate::plain::Plan;
-use crate::reference::sheet::{Job, Platform, MOST_TASKS};
+use compare::types::{Job, Platform, MAX_TASKS};
 
 const SHIFT: u32 = 24;
 const ONE: u64 = 1 << SHIFT;
@@ -14,7 +14,7 @@ const EXPONENT_LIMIT: u64 = 1 << 26;
 /// 'None yet', and any time above the limit.
 const NONE: u64 = 1 << 34;
 
-type Row = [u64; MOST_TASKS + 1];
+type Row = [u64; MAX_TASKS + 1];
 
 /// What one pair of ends adds to the time.
 #[derive(Clone, Copy, Default)]
@@ -30,15 +30,15 @@ struct Pair {
 /// Pairs by later end, then by earlier end.
 struct Tables {
     /// For a memory copy at 0, and for a later one.
-    pairs: [Vec<[Pair; MOST_TASKS]>; 2],
+    pairs: [Vec<[Pair; MAX_TASKS]>; 2],
     /// The earliest allowed beginning of a stretch to each end.
-    from: [usize; MOST_TASKS + 1],
+    from: [usize; MAX_TASKS + 1],
 }
 
 /// Where each row's best time came from.
 struct Levels {
-    disk_from: [u8; MOST_TASKS + 1],
-    mem_from: Vec<[u8; MOST_TASKS + 1]>,
+    disk_from: [u8; MAX_TASKS + 1],
+    mem_from: Vec<[u8; MAX_TASKS + 1]>,
     mem: Vec<Row>,
 }
 
@@ -72,9 +72,9 @@ fn exponent(rate: u32, weight: u64) -> u64 {
 
 impl Tables {
     fn new(job: &Job) -> Tables {
-        let n = job.tasks();
-        let blank = vec![[Pair::default(); MOST_TASKS]; n + 1];
-        let mut tables = Tables { pairs: [blank.clone(), blank], from: [0; MOST_TASKS + 1] };
+        let n = job.tasks;
+        let blank = vec![[Pair::default(); MAX_TASKS]; n + 1];
+        let mut tables = Tables { pairs: [blank.clone(), blank], from: [0; MAX_TASKS + 1] };
         for v in 1..=n {
             tables.fill(job, v);
         }
@@ -142,9 +142,9 @@ fn reach(p: &Platform, d: usize, mem: u64) -> u64 {
 
 /// The best time from d to a memory copy at each later position.
 fn remembered(job: &Job, tables: &Tables, d: usize, mem: &mut Row, from: &mut [u8]) {
-    let n = job.tasks();
+    let n = job.tasks;
     let cm = u64::from(job.platform.cm);
-    let mut q = [NONE; MOST_TASKS + 1];
+    let mut q = [NONE; MAX_TASKS + 1];
     mem[d] = 0;
     for m in d..n {
         let so_far = mem[m];
@@ -163,13 +163,13 @@ fn remembered(job: &Job, tables: &Tables, d: usize, mem: &mut Row, from: &mut [u
 }
 
 fn search(job: &Job, tables: &Tables) -> (u64, Levels) {
-    let n = job.tasks();
+    let n = job.tasks;
     let cd = u64::from(job.platform.cd);
-    let mut disk = [NONE; MOST_TASKS + 1];
+    let mut disk = [NONE; MAX_TASKS + 1];
     let mut levels = Levels {
-        disk_from: [0; MOST_TASKS + 1],
-        mem_from: vec![[0; MOST_TASKS + 1]; n],
-        mem: vec![[NONE; MOST_TASKS + 1]; n],
+        disk_from: [0; MAX_TASKS + 1],
+        mem_from: vec![[0; MAX_TASKS + 1]; n],
+        mem: vec![[NONE; MAX_TASKS + 1]; n],
     };
     disk[0] = 0;
     for d in 0..n {
@@ -189,10 +189,10 @@ fn search(job: &Job, tables: &Tables) -> (u64, Levels) {
 }
 
 /// Marks from the end down, each position from the one after it.
-fn marks(job: &Job, tables: &Tables, levels: &Levels) -> [u8; MOST_TASKS] {
-    let mut marks = [0; MOST_TASKS];
-    let mut q = [NONE; MOST_TASKS + 1];
-    let mut end = job.tasks();
+fn marks(job: &Job, tables: &Tables, levels: &Levels) -> [u8; MAX_TASKS] {
+    let mut marks = [0; MAX_TASKS];
+    let mut q = [NONE; MAX_TASKS + 1];
+    let mut end = job.tasks;
     while end > 0 {
         let d = usize::from(levels.disk_from[end]);
         let mut copy = end;
@@ -222,33 +222,4 @@ pub fn plan(job: &Job) -> Option<Plan> {
         return None;
     }
     Some(Plan { time, marks: marks(job, &tables, &levels) })
-}
-
-#[cfg(test)]
-mod tests {
-    use crate::harness::jobs;
-    use crate::harness::random::Random;
-    use crate::plain;
-    use crate::reference::setting::LONGEST;
-    use crate::reference::{plan, sheet};
-
-    #[test]
-    fn both_agree_with_the_reference() {
-        let mut random = Random::new(11);
-        for _ in 0..3000 {
-            let job = jobs::job(&mut random, 24).job;
-            if sheet::values(&job).is_err() {
-                continue;
-            }
-            let expected = plan::by_rows(&job);
-            let expected = (expected.time <= LONGEST).then_some(expected);
-            for ours in [plain::plan(&job), super::plan(&job)] {
-                let ours = ours.map(|p| plan::Plan {
-                    time: u128::from(p.time),
-                    marks: p.marks[..job.tasks()].to_vec(),
-                });
-                assert_eq!(ours, expected);
-            }
-        }
-    }
 }

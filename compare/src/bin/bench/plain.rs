@@ -1,13 +1,13 @@
-//! A planner in plain Rust with the library's algorithm, for the benchmark:
-//! rows filled forward at three levels, the growth sums of each pair of ends
-//! worked out once, and a walk back that fills again the rows that it needs.
+//! A planner in plain Rust with the library's algorithm: rows filled forward
+//! at three levels, the growth sums of each pair of ends worked out once, and a
+//! walk back that fills again the rows that it needs.
 //!
 //! A time beyond the limit is kept as NONE = 2^34. A growth is under 2^29.8
 //! and a time with a recovery at most 2^34 + 2^30, so products fit 64 bits.
 
-use crate::reference::sheet::{Job, Platform, MOST_TASKS};
+use compare::types::{Job, Platform, MAX_TASKS};
 
-const POSITIONS: usize = MOST_TASKS + 1;
+const POSITIONS: usize = MAX_TASKS + 1;
 const UNIT: u64 = 1 << 24;
 const EXPONENT_LIMIT: u64 = 1 << 26;
 const LAST_TERM: u64 = 32;
@@ -17,7 +17,7 @@ const NONE: u64 = 1 << 34;
 /// A plan, or nothing if it is too slow.
 pub struct Plan {
     pub time: u64,
-    pub marks: [u8; MOST_TASKS],
+    pub marks: [u8; MAX_TASKS],
 }
 
 /// The growth sums of one pair of ends; `error` is 0 if it is not allowed.
@@ -81,9 +81,9 @@ fn factors(p: &Platform, weight: u64) -> Factors {
 
 fn table(job: &Job) -> Table {
     let mut table = [[Factors::default(); POSITIONS]; POSITIONS];
-    for u in 0..job.tasks() {
+    for u in 0..job.tasks {
         let mut weight = 0;
-        for v in u + 1..=job.tasks() {
+        for v in u + 1..=job.tasks {
             weight += u64::from(job.weights[v - 1]);
             table[u][v] = factors(&job.platform, weight);
         }
@@ -158,8 +158,8 @@ fn disk_row(t: &Table, p: &Platform, n: usize) -> Row {
 }
 
 /// Marks from the end down, each position from the one after it.
-fn marks(t: &Table, p: &Platform, disk: &Row, n: usize) -> [u8; MOST_TASKS] {
-    let mut marks = [0; MOST_TASKS];
+fn marks(t: &Table, p: &Platform, disk: &Row, n: usize) -> [u8; MAX_TASKS] {
+    let mut marks = [0; MAX_TASKS];
     let mut end = n;
     while end > 0 {
         let d = disk.before[end];
@@ -184,7 +184,7 @@ fn marks(t: &Table, p: &Platform, disk: &Row, n: usize) -> [u8; MOST_TASKS] {
 
 /// The plan of a sheet that passed 1 to 8.
 pub fn plan(job: &Job) -> Option<Plan> {
-    let (p, n) = (&job.platform, job.tasks());
+    let (p, n) = (&job.platform, job.tasks);
     let table = table(job);
     let disk = disk_row(&table, p, n);
     let time = disk.time[n];

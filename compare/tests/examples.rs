@@ -1,0 +1,138 @@
+//! The known examples of document 01, against the reference.
+
+use compare::reference::growth::{g, h};
+use compare::reference::log;
+use compare::reference::plan;
+use compare::reference::run::{self, History};
+use compare::reference::setting::price;
+use compare::reference::sheet::{self, lookup, Section};
+use compare::sheet_writer;
+use compare::types::{Event, Platform, Run};
+
+const UNIT: u128 = 1 << 24;
+
+/// Rates 0 and all costs 0.
+const FREE: Platform = Platform { failstop: 0, silent: 0, cd: 0, cm: 0, v: 0, rd: 0, rm: 0 };
+
+const PLATFORM_A: Platform =
+    Platform { failstop: 0, silent: 1 << 31, cd: 5000, cm: 1000, v: 928, rd: 4000, rm: 1000 };
+
+fn sheet_a() -> Vec<u8> {
+    sheet_writer::sheet(&PLATFORM_A, &[131072, 131072])
+}
+
+fn run_a(events: &[Event]) -> Run {
+    let mut history = History::new(&run::start(&sheet_a(), &[2, 3]).unwrap());
+    for &event in events {
+        history.step(event).unwrap();
+    }
+    history.run()
+}
+
+#[test]
+fn growth_sums() {
+    assert_eq!((g(0), h(0)), (UNIT, UNIT));
+    assert_eq!((g(1), h(1)), (UNIT + 32, UNIT + 32));
+    assert_eq!(g(2), UNIT + 33);
+    assert_eq!(g(1 << 24), 45605227);
+    assert_eq!(g(1 << 25), 123967816);
+    assert_eq!((g((1 << 26) + 1), h((1 << 26) + 1)), (0, 0));
+    assert_ne!(g(1 << 26), 0);
+}
+
+#[test]
+fn times_under_a() {
+    assert_eq!(price(&sheet_a(), &[0, 3]), Ok(1949855));
+    assert_eq!(price(&sheet_a(), &[1, 3]), Ok(1340173));
+    assert_eq!(price(&sheet_a(), &[2, 3]), Ok(726347));
+    assert_eq!(price(&sheet_a(), &[3, 3]), Ok(731347));
+}
+
+#[test]
+fn plan_of_a() {
+    assert_eq!(plan::plan(&sheet_a(), 2), Ok((726347, vec![2, 3])));
+    assert_eq!(plan::plan(&sheet_a(), 1), Err(11));
+    let job = sheet::read(&sheet_a()).unwrap();
+    assert_eq!(plan::by_rows(&job), plan::by_trying(&job));
+}
+
+#[test]
+fn one_task_of_16() {
+    let platform = Platform { failstop: 1 << 20, cd: 6, cm: 4, v: 3, ..FREE };
+    assert_eq!(price(&sheet_writer::sheet(&platform, &[16]), &[3]), Ok(30));
+}
+
+#[test]
+fn starred_run() {
+    use Event::*;
+    let sums = run_a(&[Done, Passed, Done, Failed, Done, Passed]).place.sums;
+    assert_eq!((sums.kept, sums.redone), (262144, 131072));
+    assert_eq!((sums.verify, sums.saves, sums.recovery), (2784, 7000, 1000));
+}
+
+#[test]
+fn stopped_run() {
+    use Event::*;
+    let place = run_a(&[Done, Passed, Stopped(500)]).place;
+    assert_eq!((place.position, place.sums.kept, place.sums.redone), (0, 0, 131572));
+    assert_eq!((place.sums.verify, place.sums.saves, place.sums.recovery), (928, 1000, 0));
+}
+
+#[test]
+fn exponent_limit() {
+    let platform = Platform { silent: 1 << 31, ..FREE };
+    let of = |weight: u32| price(&sheet_writer::sheet(&platform, &[weight]), &[3]);
+    assert!(of(524288).is_ok());
+    assert_eq!(of(524289), Err(8));
+}
+
+#[test]
+fn time_limit() {
+    let of = |silent: u32| sheet_writer::sheet(&Platform { silent, ..FREE }, &[1 << 30]);
+    assert_eq!(plan::plan(&of(1 << 20), 1), Err(13));
+    assert_eq!(price(&of(1 << 20), &[3]), Err(13));
+    assert_eq!(plan::plan(&of(0), 1), Ok((1 << 30, vec![3])));
+}
+
+#[test]
+fn sizes() {
+    assert_eq!(sheet::read(&sheet_a()[..19]), Err(1));
+    let of = |n: usize| sheet::read(&sheet_writer::sheet(&FREE, &vec![1; n]));
+    assert_eq!(of(64).map(|job| job.tasks), Ok(64));
+    assert_eq!(of(65), Err(3));
+}
+
+#[test]
+fn lookup_by_kind() {
+    let sheet = sheet_a();
+    assert_eq!(lookup(&sheet, 1), Ok(Section { start: 20, size: 29 }));
+    assert_eq!(lookup(&sheet, 2), Ok(Section { start: 49, size: 9 }));
+    assert_eq!(lookup(&sheet, 3), Err(6));
+    assert_eq!(lookup(&sheet[..57], 1), Err(5));
+}
+
+#[test]
+fn log_order() {
+    let fresh = run_a(&[]);
+    let mut broken = fresh;
+    broken.job.tasks = 0;
+    assert_eq!(log::follow(&fresh, &[]), Ok(fresh));
+    assert_eq!(log::follow(&broken, &[]), Err(21));
+    assert_eq!(log::follow(&broken, &[1]), Err(12));
+    assert_eq!(log::follow(&broken, &[1, 0, 0, 0, 0]), Err(21));
+    assert_eq!(log::follow(&fresh, &[1, 0, 0, 0, 0, 9]), Err(12));
+    assert_eq!(log::follow(&fresh, &[2, 0, 0, 0, 0, 9]), Err(23));
+    assert_eq!(log::follow(&fresh, &[1, 0, 1, 0, 0]), Err(12));
+}
+
+#[test]
+fn tie_rule() {
+    assert!(plan::wins_tie(&[0, 3], &[1, 3]));
+    assert!(plan::wins_tie(&[1, 3], &[2, 3]));
+    assert!(plan::wins_tie(&[2, 3], &[3, 3]));
+    assert!(plan::wins_tie(&[3, 2, 3], &[2, 3, 3]));
+    // Marks of 3 decide before marks of 2 or 3, and these before all marks.
+    assert!(plan::wins_tie(&[3, 0, 2, 3], &[0, 3, 0, 3]));
+    assert!(plan::wins_tie(&[2, 0, 1, 3], &[0, 2, 0, 3]));
+    assert!(!plan::wins_tie(&[2, 3], &[2, 3]));
+}

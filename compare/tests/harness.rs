@@ -1,0 +1,60 @@
+//! The harness: what it makes, and that it counts what it sees.
+
+use compare::harness::check;
+use compare::harness::jobs;
+use compare::harness::tally::{Call, Tally, NUMBERS, WANTED};
+use compare::random::Random;
+use compare::reference::plan;
+use compare::reference::setting::MAX_TIME;
+use compare::reference::sheet;
+
+/// Two ways to one plan, on jobs made to have ties and edges.
+#[test]
+fn rows_agree_with_trying() {
+    let mut random = Random::new(7);
+    let mut compared = 0;
+    while compared < 400 {
+        let job = jobs::any(&mut random, 5).job;
+        if sheet::check_values(&job).is_err() {
+            continue;
+        }
+        let (tried, rows) = (plan::by_trying(&job), plan::by_rows(&job));
+        if tried.time <= MAX_TIME {
+            assert_eq!(tried, rows);
+            compared += 1;
+        } else {
+            assert!(rows.time > MAX_TIME);
+        }
+    }
+}
+
+/// A step is a log of one record, and a plan's marks have its price.
+#[test]
+fn no_differences_and_every_refusal() {
+    let mut tally = Tally::default();
+    let mut random = Random::new(5);
+    for _ in 0..3000 {
+        check::one(&mut random, &mut tally);
+    }
+    assert_eq!((tally.sheets, tally.differences), (3000, 0));
+    assert!(tally.complete());
+}
+
+#[test]
+fn a_difference_is_counted() {
+    let mut tally = Tally::default();
+    tally.same("numbers", &[], &"any", &1, &1);
+    assert_eq!(tally.differences, 0);
+    tally.same("numbers", &[], &"any", &1, &2);
+    assert_eq!(tally.differences, 1);
+}
+
+#[test]
+fn complete_needs_every_number_often() {
+    let mut tally = Tally::default();
+    for number in NUMBERS {
+        assert!(!tally.complete());
+        (0..WANTED).for_each(|_| tally.count(Call::Plan, number));
+    }
+    assert!(tally.complete());
+}
