@@ -5,22 +5,24 @@ use mathlib.Core.List.{List, [], _∷_}
 use lib.Dec.{eqb}
 use Rattle.growth.specs.Growth.{G, H}
 use Rattle.pricing.specs.Price.{priceOf}
-use Rattle.run.specs.Start.{startOf}
-use Rattle.run.specs.Log.{steps}
-use Rattle.run.specs.declared.Sums.{Sums}
-use Rattle.run.specs.declared.Event.the-variants.{Done, Passed, Failed}
+use Rattle.following.specs.Start.{startOf}
+use Rattle.history.specs.Events.{steps}
+use Rattle.state.specs.declared.Sums.{Sums}
+use Rattle.following.specs.declared.Event.the-variants.{Done, Passed, Failed}
 
 -- sheet A: bytes 1, 2, 2, 0; pairs (20, 29), (49, 9); rates 0 and 2^31; C_D 5000, C_M 1000, V 928, R_D 4000, R_M 1000; weights 131072, 131072
 unfoldable pub sheetA : List ℕ
 sheetA =
-    1 ∷ 2 ∷ 2 ∷ 0 ∷ 20 ∷ 0 ∷ 0 ∷ 0 ∷ 29 ∷ 0 ∷ 0 ∷ 0 ∷ 49 ∷ 0 ∷ 0 ∷ 0 ∷ 9 ∷ 0 ∷ 0 ∷ 0 ∷ 1 ∷ 0 ∷ 0 ∷ 0 ∷ 0 ∷ 0 ∷ 0 ∷ 0 ∷ 128 ∷ 136 ∷ 19 ∷ 0 ∷
-    0 ∷ 232 ∷ 3 ∷ 0 ∷ 0 ∷ 160 ∷ 3 ∷ 0 ∷ 0 ∷ 160 ∷ 15 ∷ 0 ∷ 0 ∷ 232 ∷ 3 ∷ 0 ∷ 0 ∷ 2 ∷ 0 ∷ 0 ∷ 2 ∷ 0 ∷ 0 ∷ 0 ∷ 2 ∷ 0 ∷ []
+    1 ∷ 2 ∷ 2 ∷ 0 ∷ 20 ∷ 0 ∷ 0 ∷ 0 ∷ 29 ∷ 0 ∷ 0 ∷ 0 ∷ 49 ∷ 0 ∷ 0 ∷ 0 ∷ 9 ∷ 0 ∷ 0 ∷ 0 ∷ 1 ∷ 0 ∷ 0 ∷ 0 ∷ 0 ∷ 0 ∷
+    0 ∷ 0 ∷ 128 ∷ 136 ∷ 19 ∷ 0 ∷ 0 ∷ 232 ∷ 3 ∷ 0 ∷ 0 ∷ 160 ∷ 3 ∷ 0 ∷ 0 ∷ 160 ∷ 15 ∷ 0 ∷ 0 ∷ 232 ∷ 3 ∷ 0 ∷ 0 ∷
+    2 ∷ 0 ∷ 0 ∷ 2 ∷ 0 ∷ 0 ∷ 0 ∷ 2 ∷ 0 ∷ []
 
 -- one task of 16, rates 2^20 and 0, V 3, C_M 4, C_D 6
 unfoldable pub sheetOne : List ℕ
 sheetOne =
-    1 ∷ 1 ∷ 2 ∷ 0 ∷ 20 ∷ 0 ∷ 0 ∷ 0 ∷ 29 ∷ 0 ∷ 0 ∷ 0 ∷ 49 ∷ 0 ∷ 0 ∷ 0 ∷ 5 ∷ 0 ∷ 0 ∷ 0 ∷ 1 ∷ 0 ∷ 0 ∷ 16 ∷ 0 ∷ 0 ∷ 0 ∷ 0 ∷ 0 ∷ 6 ∷ 0 ∷ 0 ∷ 0 ∷
-    4 ∷ 0 ∷ 0 ∷ 0 ∷ 3 ∷ 0 ∷ 0 ∷ 0 ∷ 0 ∷ 0 ∷ 0 ∷ 0 ∷ 0 ∷ 0 ∷ 0 ∷ 0 ∷ 2 ∷ 16 ∷ 0 ∷ 0 ∷ 0 ∷ []
+    1 ∷ 1 ∷ 2 ∷ 0 ∷ 20 ∷ 0 ∷ 0 ∷ 0 ∷ 29 ∷ 0 ∷ 0 ∷ 0 ∷ 49 ∷ 0 ∷ 0 ∷ 0 ∷ 5 ∷ 0 ∷ 0 ∷ 0 ∷ 1 ∷ 0 ∷ 0 ∷ 16 ∷ 0 ∷
+    0 ∷ 0 ∷ 0 ∷ 0 ∷ 6 ∷ 0 ∷ 0 ∷ 0 ∷ 4 ∷ 0 ∷ 0 ∷ 0 ∷ 3 ∷ 0 ∷ 0 ∷ 0 ∷ 0 ∷ 0 ∷ 0 ∷ 0 ∷ 0 ∷ 0 ∷ 0 ∷ 0 ∷ 2 ∷ 16 ∷
+    0 ∷ 0 ∷ 0 ∷ []
 
 -- the time of marks under a sheet
 unfoldable pub timeUnder : List ℕ → List ℕ → ℕ

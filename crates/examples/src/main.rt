@@ -1,6 +1,8 @@
 // Runs the examples of document 01 that are not starred, and prints what each gives; the starred ones are proved (`starred-examples`).
 ghost use Rattle.io.specs.Counts.{Counts};
+use job::TASK_LIMIT;
 use libc::STDOUT_FILENO;
+use sheet::SHEET_ROOM;
 
 // The bytes of a file at the front of the buffer, and how many; one that cannot be read has none.
 fn read_file(name: &[u8], buffer: &mut [u8]) -> usize
@@ -14,38 +16,38 @@ fn read_file(name: &[u8], buffer: &mut [u8]) -> usize
 
 // The least time of the sheet in the file, or its refusal.
 fn plan(name: &[u8]) {
-    let mut sheet = [0u8; 4097];
+    let mut sheet = [0u8; SHEET_ROOM];
     let n = read_file(name, &mut sheet);
-    let mut marks = [0u8; 64];
-    let answer = planner::plan(&sheet[..n], &mut marks);
+    let mut marks = [0u8; TASK_LIMIT];
+    let answer = planning::plan(&sheet[..n], &mut marks);
     io::write_all(STDOUT_FILENO, name);
     io::write_all(STDOUT_FILENO, b": ");
     if answer.number != 0 {
-        report::refused(answer.number);
+        console::refused(answer.number);
         return;
     }
-    report::numbered(b"time", answer.time);
+    console::numbered(b"time", answer.time);
 }
 
 // The run of the sheet under marks 23 through the log.
 fn follow(sheet: &[u8], log: &[u8]) {
     let marks = [2u8, 3];
-    let started = run::start(sheet, &marks);
-    let followed = run::follow(started.run, log);
+    let started = following::start(sheet, &marks);
+    let followed = logs::follow(started.run, log);
     let fresh = followed.run;
     let place = fresh.place;
     let sums = place.sums;
-    report::numbered(b"number", followed.number);
-    report::numbered(b"position", place.position as u64);
-    report::numbered(b"kept", sums.kept);
-    report::numbered(b"redone", sums.redone);
-    report::numbered(b"verify", sums.verify);
-    report::numbered(b"saves", sums.saves);
-    report::numbered(b"recovery", sums.recovery);
+    console::numbered(b"number", followed.number);
+    console::numbered(b"position", place.position as u64);
+    console::numbered(b"kept", sums.kept);
+    console::numbered(b"redone", sums.redone);
+    console::numbered(b"verify", sums.verify);
+    console::numbered(b"saves", sums.saves);
+    console::numbered(b"recovery", sums.recovery);
 }
 
 fn run_of_a() {
-    let mut sheet = [0u8; 4097];
+    let mut sheet = [0u8; SHEET_ROOM];
     let n = read_file(b"a", &mut sheet);
     let mut log = [0u8; 64];
     let k = read_file(b"log", &mut log);

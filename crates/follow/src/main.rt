@@ -1,10 +1,8 @@
 // Follows a run: the marks as digits in the first argument, the name of a log file in the second, the job sheet on standard input.
 // Prints where the run stands and what it has counted, or the number of its refusal.
-use libc::STDIN_FILENO;
-use run::Run;
-
-// Linux hands a program no argument of more than 131,071 bytes.
-const ARGUMENT_SPACE: usize = 131_072;
+use console::ARGUMENT_ROOM;
+use sheet::SHEET_ROOM;
+use state::Run;
 
 // 13,107 records of 5 bytes.
 const PIECE_LENGTH: usize = 65_535;
@@ -15,17 +13,17 @@ const MAX_PIECES: u64 = 1 << 48;
 fn show(run: Run) {
     let place = run.place;
     let sums = place.sums;
-    report::numbered(b"position", place.position as u64);
+    console::numbered(b"position", place.position as u64);
     if place.awaiting {
-        report::line(b"awaited yes");
+        console::line(b"awaited yes");
     } else {
-        report::line(b"awaited no");
+        console::line(b"awaited no");
     }
-    report::numbered(b"kept", sums.kept);
-    report::numbered(b"redone", sums.redone);
-    report::numbered(b"verify", sums.verify);
-    report::numbered(b"saves", sums.saves);
-    report::numbered(b"recovery", sums.recovery);
+    console::numbered(b"kept", sums.kept);
+    console::numbered(b"redone", sums.redone);
+    console::numbered(b"verify", sums.verify);
+    console::numbered(b"saves", sums.saves);
+    console::numbered(b"recovery", sums.recovery);
 }
 
 // Follows the log piece by piece from the state given. A piece holds whole records, and one that is not full is the last.
@@ -35,15 +33,15 @@ fn follow_log(run: Run, file: i32) {
     let mut state = run;
     let mut i: u64 = 0;
     while i < MAX_PIECES {
-        let taken = report::read_all(file, &mut piece);
+        let taken = console::read_all(file, &mut piece);
         if taken.failed {
-            report::line(b"cannot read: log");
+            console::line(b"cannot read: log");
             return;
         }
         let n = taken.n;
-        let followed = run::follow(state, &piece[..n]);
+        let followed = logs::follow(state, &piece[..n]);
         if followed.number != 0 {
-            report::refused(followed.number);
+            console::refused(followed.number);
             return;
         }
         state = followed.run;
@@ -53,25 +51,24 @@ fn follow_log(run: Run, file: i32) {
         }
         i += 1;
     }
-    report::line(b"too long: log");
+    console::line(b"too long: log");
 }
 
 // The run of the sheet and the marks through the log. The log is read only after both are accepted.
 fn follow(sheet: &[u8], marks: &[u8], file: i32) {
-    let started = run::start(sheet, marks);
+    let started = following::start(sheet, marks);
     if started.number != 0 {
-        report::refused(started.number);
+        console::refused(started.number);
         return;
     }
     follow_log(started.run, file);
 }
 
-// One byte more than the longest sheet is read, so that a longer one is seen to be too long.
+// The run under the sheet on standard input.
 fn read_and_follow(marks: &[u8], file: i32) {
-    let mut sheet = [0u8; 4097];
-    let taken = report::read_all(STDIN_FILENO, &mut sheet);
+    let mut sheet = [0u8; SHEET_ROOM];
+    let taken = console::read_sheet(&mut sheet);
     if taken.failed {
-        report::line(b"cannot read: sheet");
         return;
     }
     let n = taken.n;
@@ -82,47 +79,39 @@ fn read_and_follow(marks: &[u8], file: i32) {
 fn open_and_follow(marks: &[u8], path: &[u8]) {
     let file = os::open_read(path);
     if file < 0 {
-        report::line(b"cannot read: log");
+        console::line(b"cannot read: log");
         return;
     }
     read_and_follow(marks, file);
     libc::close(file);
 }
 
+// The log that the second argument names.
 fn take_path(marks: &[u8]) {
     let mut path = io::buffer();
     let n = os::arg(2, &mut path);
     if os::errno() != 0 {
-        report::line(b"argument too long: log");
+        console::line(b"argument too long: log");
         return;
     }
     open_and_follow(marks, &path[..n]);
 }
 
-// The run under the marks that the text gives.
-fn follow_text(text: &mut [u8]) {
-    if !report::to_marks(text) {
-        report::line(b"not digits: marks");
-        return;
-    }
-    take_path(text);
-}
-
 fn main() {
     let count = os::arg_count();
     if count < 2 {
-        report::line(b"missing argument: marks");
+        console::line(b"missing argument: marks");
         return;
     }
     if count < 3 {
-        report::line(b"missing argument: log");
+        console::line(b"missing argument: log");
         return;
     }
-    let mut text = [0u8; ARGUMENT_SPACE];
-    let n = os::arg(1, &mut text);
-    if os::errno() != 0 {
-        report::line(b"argument too long: marks");
+    let mut marks = [0u8; ARGUMENT_ROOM];
+    let taken = console::read_marks(&mut marks);
+    if taken.failed {
         return;
     }
-    follow_text(&mut text[..n]);
+    let n = taken.n;
+    take_path(&marks[..n]);
 }

@@ -7,7 +7,8 @@ use native.Mathlib.Nat.{le-refl, le-trans, le-add-right, lt-of-not-le}
 use native.Mathlib.Decide.{decLe}
 use native.Mathlib.Omega.{arith}
 use lib.Dec.{lit≤}
-use Rattle.units.specs.Unit.{exponentLimit}
+use Rattle.units.specs.Unit.{unit, exponentLimit}
+use Rattle.units.specs.Working.Caps.{growthCap, meanGrowthCap}
 use Rattle.growth.specs.Growth.{ceilDiv, term, termSum, growthSum, growth, G, H, exactSum, WithinBound}
 use Rattle.growth.proofs.Error.{growthSum-bound}
 use Rattle.growth.proofs.Terms.{growthSum-mono, growthSum-unit, growth-within, growth-above}
@@ -27,8 +28,16 @@ growth-most s y = at (decLe y exponentLimit)
     at (no not) = rw (growth-above s y (lt-of-not-le not)) (omega arith)
 
 -- "Each is at least 2^24 times the exact sum of the same 33 series terms, and less than 64 above it."
-pub growth-bound : (shift y : ℕ) → y ≤ 2 ^ 26 → WithinBound (growthSum shift y) (exactSum shift y)
-growth-bound = growthSum-bound
+pub growth-bound : (shift y : ℕ) → y ≤ exponentLimit → WithinBound (growth shift y) (exactSum shift y)
+growth-bound shift y within = rw (growth-within shift y within) (growthSum-bound shift y within)
+
+pub G-bound : (y : ℕ) → y ≤ exponentLimit → WithinBound (G y) (exactSum 0 y)
+unfolding G
+G-bound = growth-bound 0
+
+pub H-bound : (y : ℕ) → y ≤ exponentLimit → WithinBound (H y) (exactSum 1 y)
+unfolding H
+H-bound = growth-bound 1
 
 pub G-mono : (a b : ℕ) → a ≤ b → b ≤ 2 ^ 26 → G a ≤ G b
 unfolding G
@@ -57,10 +66,17 @@ pub H-none : (y : ℕ) → 2 ^ 26 < y → H y ≡ 0
 unfolding H
 H-none = growth-above 1
 
-pub G-cap : (y : ℕ) → G y ≤ 55 * 2 ^ 24
+pub G-cap : (y : ℕ) → G y ≤ growthCap * unit
 unfolding G growth growthSum termSum term ceilDiv
 G-cap y = le-trans (growth-most 0 y) (lit≤ tt)
 
-pub H-cap : (y : ℕ) → H y ≤ 14 * 2 ^ 24
+pub H-cap : (y : ℕ) → H y ≤ meanGrowthCap * unit
 unfolding H growth growthSum termSum term ceilDiv
 H-cap y = le-trans (growth-most 1 y) (lit≤ tt)
+
+-- "which no sum equals": up to the limit neither is 0
+pub G-some : (y : ℕ) → y ≤ exponentLimit → 0 < G y
+G-some y within = omega (arith, G-unit y within)
+
+pub H-some : (y : ℕ) → y ≤ exponentLimit → 0 < H y
+H-some y within = omega (arith, H-unit y within)

@@ -5,7 +5,8 @@ use native.Mathlib.Nat.{zero-add, suc-add, mul-le-mul-left}
 use native.Mathlib.Decide.{decLe}
 use native.Mathlib.Omega.{arith}
 use Rattle.units.specs.Unit.{unit, exponentLimit}
-use Rattle.growth.specs.Growth.{lastTerm, settledFrom, term, termSum, growthSum}
+use Rattle.growth.specs.Growth.{lastTerm, term, termSum, growthSum}
+use Rattle.growth.specs.Working.Settled.{settledFrom}
 use Rattle.growth.proofs.Terms.{ceil-ge, ceil-le}
 
 -- no term but the first is above 0 where y is 0

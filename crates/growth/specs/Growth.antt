@@ -1,6 +1,6 @@
 -- Document 01, "Growth sums": the rounded sums G(y) and H(y), the exact series beside them, and the bound that ties the two.
 -- The shift is what the divisor adds to k: 0 for G, whose terms are t_k, and 1 for H, whose terms are u_k.
-use mathlib.Core.Bool.{Bool, cond, _&&_}
+use mathlib.Core.Bool.{cond}
 use Prim.Native.Nat.{ℕ, zero, suc, _+_, _-_, _*_, _/_, _^_, _≤_, _<_}
 use lib.Dec.{leb}
 use Rattle.units.specs.Unit.{unit, exponentLimit}
@@ -38,13 +38,6 @@ G y = growth 0 y
 -- H(y)
 unfoldable pub H : ℕ → ℕ
 H y = growth 1 y
-
--- How a sum is cut short: a term of 0 or 1 from this one on stands for all later ones (`settled-sum`)
-abbrev pub settledFrom : ℕ
-settledFrom = 3
-
-unfoldable pub settled : ℕ → ℕ → Bool
-settled k t = leb settledFrom k && leb t 1
 
 -- a fraction, num / den
 pub record Fraction : Type 0 where

@@ -1,7 +1,9 @@
 // The growth sums G and H of document 01, in units of 2^-24. They know nothing of tasks or marks.
 ghost use mathlib.Core.Path.{_≡_};
-ghost use Prim.Native.Nat.{_+_, _<_, _≤_, _^_};
+ghost use Prim.Native.Nat.{_≤_};
 ghost use Rattle.growth.specs.Growth;
+ghost use Rattle.growth.specs.Working.Divide.{ReadyToDivide};
+ghost use Rattle.growth.specs.Working.Settled.{settled};
 use units::EXPONENT_LIMIT;
 use units::UNIT;
 
@@ -11,7 +13,7 @@ const SETTLED_FROM: u64 = 3;
 
 // n / d rounded up.
 fn ceil_div(n: u64, d: u64) -> u64
-    requires { ⌜ (0 < d) × (n + d < 2 ^ 64) ⌝ }
+    requires { ⌜ ReadyToDivide n d ⌝ }
     ensures { λ r. ⌜ r ≡ Growth.ceilDiv n d ⌝ }
 {
     (n + (d - 1)) / d
@@ -19,7 +21,7 @@ fn ceil_div(n: u64, d: u64) -> u64
 
 // From the third term on, a term of 0 or 1 stands for all later ones.
 fn is_settled(k: u64, term: u64) -> bool
-    ensures { λ r. ⌜ r ≡ Growth.settled k term ⌝ }
+    ensures { λ r. ⌜ r ≡ settled k term ⌝ }
 {
     if k < SETTLED_FROM {
         return false;

@@ -1,3 +1,3 @@
 pub mod Pays
 pub mod Marks
-pub mod Recovery
+pub mod Working

@@ -1,15 +1,17 @@
 // The marks of a setting: what each pays when passed, and checks 9 and 10 of lists that a user supplies.
 ghost use mathlib.Core.Path.{_≡_};
 ghost use mathlib.Core.Bool.{false};
-ghost use Prim.Native.Nat.{_-_, _≤_, _<_};
-ghost use lib.ListN.{length, getD};
-ghost use Rattle.sheet.specs.Refusal.{first};
-ghost use Rattle.sheet.specs.Job.{some, total, taskLimit, costLimit, Sound};
+ghost use Prim.Native.Nat.{_<_};
+ghost use Rattle.refusals.specs.Refusals.{first};
+ghost use Rattle.job.specs.Working.Sound.{Sound};
 ghost use Rattle.marks.specs.Pays.{paysOf};
-ghost use Rattle.marks.specs.Recovery.{fromDisk, fromMemory};
-ghost use Rattle.marks.specs.Marks.{between, stretchAllowed, badMarks, badStretches, marksConditions};
-use sheet::Job;
-use sheet::Platform;
+ghost use Rattle.marks.specs.Marks.{badMarks, badStretches, marksConditions};
+ghost use Rattle.marks.specs.Working.Ready.{ReadyForStretches};
+use chain::DISK;
+use job::Job;
+use job::stretch::is_allowed;
+use refusals::BAD_MARKS;
+use refusals::BAD_STRETCH;
 
 // Which of V, C_M and C_D a passed mark pays.
 pub struct Pays {
@@ -17,8 +19,6 @@ pub struct Pays {
     pub cm: bool,
     pub cd: bool,
 }
-
-const HIGHEST_MARK: u8 = 3;
 
 const TABLE: [Pays; 4] = [
     Pays {
@@ -47,7 +47,7 @@ const TABLE: [Pays; 4] = [
 pub fn payments(mark: u8) -> Pays
     ensures { λ r. ⌜ r ≡ paysOf mark ⌝ }
 {
-    if HIGHEST_MARK < mark {
+    if DISK < mark {
         return TABLE[0];
     }
     TABLE[mark as usize]
@@ -63,18 +63,17 @@ fn bad_marks(n: usize, marks: &[u8]) -> bool
     }
     let mut j: usize = 0;
     while j < n {
-        if HIGHEST_MARK < marks[j] {
+        if DISK < marks[j] {
             return true;
         }
         j += 1;
     }
-    marks[n - 1] != HIGHEST_MARK
+    marks[n - 1] != DISK
 }
 
 // Check 10: a stretch from one marked position, or the start, to the next is not allowed.
 fn bad_stretches(job: Job, marks: &[u8]) -> bool
-    requires { ⌜ Sound job ⌝ }
-    requires { ⌜ badMarks (job .tasks) (now marks) ≡ false ⌝ }
+    requires { ⌜ ReadyForStretches job (now marks) ⌝ }
     ensures { λ r. ⌜ r ≡ badStretches job (now (marks .entry)) ⌝ }
 {
     let n = job.tasks;
@@ -85,7 +84,7 @@ fn bad_stretches(job: Job, marks: &[u8]) -> bool
     while j < n {
         weight += weights[j] as u64;
         if marks[j] != 0 {
-            if !sheet::values::is_allowed(platform, weight) {
+            if !is_allowed(platform, weight) {
                 return true;
             }
             weight = 0;
@@ -101,30 +100,10 @@ pub fn marks_refusal(job: Job, marks: &[u8]) -> u64
     ensures { λ r. ⌜ r ≡ first (marksConditions job (now (marks .entry))) ⌝ }
 {
     if bad_marks(job.tasks, marks) {
-        return 9;
+        return BAD_MARKS;
     }
     if bad_stretches(job, marks) {
-        return 10;
+        return BAD_STRETCH;
     }
     0
-}
-
-// R_D' where d is the last disk copy.
-pub fn from_disk(p: Platform, d: usize) -> u64
-    ensures { λ r. ⌜ r ≡ fromDisk p d ⌝ }
-{
-    if d == 0 {
-        return 0;
-    }
-    p.rd as u64
-}
-
-// R_M' where m is the last memory copy.
-pub fn from_memory(p: Platform, m: usize) -> u64
-    ensures { λ r. ⌜ r ≡ fromMemory p m ⌝ }
-{
-    if m == 0 {
-        return 0;
-    }
-    p.rm as u64
 }

@@ -1,6 +1,4 @@
--- The laws of pricing that its own proofs and the planner's cite.
-pub mod Products
-pub mod Carries
-pub mod Steps
+-- The laws of prices that the crate's own proofs and the crates above cite.
 pub mod Prices
-pub mod Settings
+pub mod Steps
+pub mod Progresses

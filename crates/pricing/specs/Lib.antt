@@ -1,4 +1,2 @@
-pub mod Chain
 pub mod Price
-pub mod Carry
-pub mod Bounds
+pub mod Working

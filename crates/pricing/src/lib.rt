@@ -1,37 +1,31 @@
 // The price of a setting: D(n) of document 01 for a sheet and the marks that a user supplies, or the first refusal that holds.
+// The tasks are passed once, carrying what the equations need: the work grows as n, and the room does not grow.
 ghost use mathlib.Core.Path.{_≡_};
-ghost use mathlib.Core.Bool.{true};
-ghost use Prim.Native.Nat.{_+_, _<_, _≤_, _^_, min};
-ghost use Rattle.sheet.specs.Refusal.{first};
-ghost use Rattle.sheet.specs.Job.{costLimit, isAllowed, Sound};
-ghost use Rattle.marks.specs.Marks.{highestMark, marksConditions};
-ghost use Rattle.pricing.specs.Price.{timeOf, priceOf, none};
-ghost use Rattle.pricing.specs.Carry.{factorsOf, stretchOf, arrivalOf, carriedPast};
-ghost use Rattle.pricing.specs.Bounds.{CostsBounded, Factored, Carriable};
-use sheet::Job;
-use sheet::Platform;
-
-// 2^34, one more than the longest time that is not too slow: such a time, and any above it, is none.
-pub const NONE: u64 = 1 << 34;
-
-const TOO_SLOW: u64 = 13;
-
-// The answer to a call: number 0 and the time, or the number of its refusal and time 0.
-#[repr(C)]
-pub struct Answer {
-    pub number: u64,
-    pub time: u64,
-}
-
-// What a stretch puts into S: its first part, G(y_s) and G(y_s + y_f), which is 0 where the stretch is not allowed.
-pub struct Factors {
-    pub work: u64,
-    pub silent: u64,
-    pub error: u64,
-}
+ghost use Prim.Native.Nat.{min};
+ghost use Rattle.units.specs.Limits.{none};
+ghost use Rattle.costs.specs.Stretch.{timeOf};
+ghost use Rattle.pricing.specs.Price.{priceOf};
+ghost use Rattle.pricing.specs.Working.Progress.{ReadyForArrival, ReadyForMark, ReadyForTime, Arrived, Passed};
+use chain::Recoveries;
+use chain::stretch_time;
+use costs::cd_at;
+use costs::cm_at;
+use costs::rd_at;
+use costs::rm_at;
+use costs::stretch_factors;
+use costs::v_at;
+use job::Job;
+use marks::marks_refusal;
+use marks::payments;
+use refusals::Answer;
+use refusals::TOO_SLOW;
+use refusals::accepted;
+use refusals::refused;
+use sheet::read::read_job;
+use units::NONE;
 
 // What is carried from one position to the next: the weight since the last mark, the last memory and disk copies, Q', M' and D(d).
-pub struct Carried {
+pub struct Progress {
     pub weight: u64,
     pub m: usize,
     pub d: usize,
@@ -40,61 +34,31 @@ pub struct Carried {
     pub dt: u64,
 }
 
-// The growth sums of a stretch of this weight. The caps of G and H keep each product below 2^64.
-pub fn stretch_factors(p: Platform, weight: u64) -> Factors
-    requires { ⌜ (weight ≤ costLimit) × (p .v ≤ costLimit) ⌝ }
-    ensures { λ r. ⌜ r ≡ factorsOf p weight ⌝ }
-{
-    let silent = sheet::values::exponent_of(p.silent, weight);
-    let stop = sheet::values::exponent_of(p.failstop, weight);
-    let growth = growth::g(silent);
-    let work = units::rounded_up(weight * growth::h(stop)) + (p.v as u64);
-    Factors {
-        work: units::rounded_up(growth * work),
-        silent: growth,
-        error: growth::g(silent + stop),
-    }
-}
-
-// S over an allowed stretch. A time of 2^34 or more is dropped before it comes here, so that no product wraps.
-pub fn stretch_time(f: Factors, disk: u64, q: u64, memory: u64) -> u64
-    requires { ⌜ Factored f ⌝ }
-    requires { ⌜ (disk < none + 2 ^ 30 + 1) × (q < none) × (memory ≤ costLimit) ⌝ }
-    ensures { λ r. ⌜ (r ≡ stretchOf f disk q memory) × (r ≤ 2 ^ 43) ⌝ }
-{
-    f.work
-        + units::rounded_up((f.error - f.silent) * disk)
-        + units::rounded_up((f.error - units::UNIT) * q)
-        + units::rounded_up((f.silent - units::UNIT) * memory)
-}
-
 // Q(v) from what is carried to the marked position v.
-fn arrival(p: Platform, s: Carried) -> u64
-    requires { ⌜ CostsBounded p ⌝ }
-    requires { ⌜ Carriable s ⌝ }
-    requires { ⌜ isAllowed p (s .weight) ≡ true ⌝ }
-    ensures { λ r. ⌜ (r ≡ arrivalOf p s) × (r ≤ 2 ^ 44) ⌝ }
+fn arrival(job: Job, s: Progress, v: usize) -> u64
+    requires { ⌜ ReadyForArrival job s ⌝ }
+    ensures { λ r. ⌜ Arrived job s v r ⌝ }
 {
-    let f = stretch_factors(p, s.weight);
-    let disk = marks::from_disk(p, s.d) + s.mt;
-    s.q + stretch_time(f, disk, s.q, marks::from_memory(p, s.m))
+    let factors = stretch_factors(job.platform, s.weight, v_at(job, v));
+    let recoveries = Recoveries {
+        disk: rd_at(job, s.d) + s.mt,
+        memory: rm_at(job, s.m),
+    };
+    s.q + stretch_time(factors, recoveries, s.q)
 }
 
 // What is carried past the mark at v.
-fn carry_past(p: Platform, s: Carried, v: usize, mark: u8) -> Carried
-    requires { ⌜ CostsBounded p ⌝ }
-    requires { ⌜ Carriable s ⌝ }
-    requires { ⌜ (0 < mark → isAllowed p (s .weight) ≡ true) ⌝ }
-    requires { ⌜ mark ≤ highestMark ⌝ }
-    ensures { λ r. ⌜ (r ≡ carriedPast p s v mark) × (r .dt + r .mt + r .q ≤ 2 ^ 46) ⌝ }
+fn past_mark(job: Job, s: Progress, v: usize, mark: u8) -> Progress
+    requires { ⌜ ReadyForMark job s mark ⌝ }
+    ensures { λ r. ⌜ Passed job s v mark r ⌝ }
 {
-    let pays = marks::payments(mark);
+    let pays = payments(mark);
     if !pays.v {
         return s;
     }
-    let q = arrival(p, s);
+    let q = arrival(job, s, v);
     if !pays.cm {
-        return Carried {
+        return Progress {
             weight: 0,
             m: s.m,
             d: s.d,
@@ -103,9 +67,9 @@ fn carry_past(p: Platform, s: Carried, v: usize, mark: u8) -> Carried
             dt: s.dt,
         };
     }
-    let mt = s.mt + q + (p.cm as u64);
+    let mt = s.mt + q + cm_at(job, v);
     if !pays.cd {
-        return Carried {
+        return Progress {
             weight: 0,
             m: v,
             d: s.d,
@@ -114,26 +78,25 @@ fn carry_past(p: Platform, s: Carried, v: usize, mark: u8) -> Carried
             dt: s.dt,
         };
     }
-    Carried {
+    Progress {
         weight: 0,
         m: v,
         d: v,
         q: 0,
         mt: 0,
-        dt: s.dt + mt + (p.cd as u64),
+        dt: s.dt + mt + cd_at(job, v),
     }
 }
 
 // The time of a setting that passed check 10, or none where it is too slow: what is too slow once stays so.
-pub fn setting_time(job: Job, marks: &[u8]) -> u64
-    requires { ⌜ Sound job ⌝ }
-    requires { ⌜ first (marksConditions job (now marks)) ≡ 0 ⌝ }
+fn setting_time(job: Job, marks: &[u8]) -> u64
+    requires { ⌜ ReadyForTime job (now marks) ⌝ }
     ensures { λ r. ⌜ r ≡ min none (timeOf job (now (marks .entry))) ⌝ }
 {
+    let job = job;
     let n = job.tasks;
     let weights = job.weights;
-    let platform = job.platform;
-    let mut s = Carried {
+    let mut s = Progress {
         weight: 0,
         m: 0,
         d: 0,
@@ -144,7 +107,7 @@ pub fn setting_time(job: Job, marks: &[u8]) -> u64
     let mut j: usize = 0;
     while j < n {
         s.weight += weights[j] as u64;
-        s = carry_past(platform, s, j + 1, marks[j]);
+        s = past_mark(job, s, j + 1, marks[j]);
         if NONE <= s.dt + s.mt + s.q {
             return NONE;
         }
@@ -157,21 +120,18 @@ pub fn setting_time(job: Job, marks: &[u8]) -> u64
 pub fn price(s: &[u8], marks: &[u8]) -> Answer
     ensures { λ r. ⌜ r ≡ priceOf (now (s .entry)) (now (marks .entry)) ⌝ }
 {
-    let number = sheet::read::sheet_refusal(s);
-    if number != 0 {
-        return Answer { number, time: 0 };
+    let reading = read_job(s);
+    if reading.number != 0 {
+        return refused(reading.number);
     }
-    let job = sheet::read::job_of(s);
-    let number = marks::marks_refusal(job, marks);
+    let job = reading.job;
+    let number = marks_refusal(job, marks);
     if number != 0 {
-        return Answer { number, time: 0 };
+        return refused(number);
     }
     let time = setting_time(job, marks);
     if NONE <= time {
-        return Answer {
-            number: TOO_SLOW,
-            time: 0,
-        };
+        return refused(TOO_SLOW);
     }
-    Answer { number: 0, time }
+    accepted(time)
 }

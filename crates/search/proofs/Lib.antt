@@ -1,5 +1,6 @@
--- The laws of rows and of the plan that the crate's own proofs and the crates above cite.
+-- The laws of the table, of rows and of the walk that the crate's own proofs and the crates above cite.
+pub mod Pairs
+pub mod Tables
 pub mod Turns
-pub mod Entries
 pub mod Levels
 pub mod Backs

@@ -1,3 +1,2 @@
-pub mod Rows
-pub mod Table
-pub mod Walk
+-- The search promises nothing of its own: what a plan is stands in `chain`, and what planning gives in `planning`.
+pub mod Working

@@ -1,198 +1,147 @@
 // Rows of least times. A row is filled forward: each position that is reached offers its arrivals to the later ones, and the lesser time stays.
-// The planner alone calls these, with rows that it made for a job that passed its checks.
-ghost use mathlib.Core.Path.{_≡_};
-ghost use Prim.Native.Nat.{ℕ, _+_, _*_, _<_, _≤_};
-ghost use lib.ListN.{length, getD, set, replicate};
-ghost use lib.Dec.{ltb};
-ghost use Rattle.units.specs.Choice.{ite};
-ghost use Rattle.setting.specs.Search.{toVerification, toMemory, toDisk, leastQ, leastM};
-ghost use Rattle.sheet.specs.Job.{costLimit, Sound};
-ghost use Rattle.pricing.specs.Chain.{chainOf};
-ghost use Rattle.pricing.specs.Price.{none};
-ghost use Rattle.search.specs.Rows.{positions, Offered, Filled};
-ghost use Rattle.search.specs.Table.{tableLength, arrivalAt, TableOf, Usable};
-use crate::table::POSITIONS;
+// `time` has the least times and `backs` the earliest positions before, in fresh rows that the caller lends.
+ghost use Prim.Native.Nat.{_+_};
+ghost use lib.ListN.{getD};
+ghost use Rattle.units.specs.Limits.{none};
+ghost use Rattle.chain.specs.Working.Search.{toMemory, toDisk};
+ghost use Rattle.search.specs.Working.Table.{chainIn, arrivalAt};
+ghost use Rattle.search.specs.Working.Rows.{Offered, Filled, ReadyToOffer, OfferMade, ReadyForCopies, ReadyForVerifications, ReadyForRow, ReadyForMemory, ReadyForMemoryRow, ReadyForDisk, ReadyForDiskRow};
+use crate::table::disk_copies;
 use crate::table::entry;
-use pricing::NONE;
-use sheet::Job;
+use crate::table::memory_copies;
+use crate::table::recoveries;
+use crate::table::wide;
+use chain::Recoveries;
+use chain::stretch_time;
+use job::POSITIONS;
+use units::NONE;
 
 // An arrival at v from u: the lesser time stays, and on a tie the earlier position.
-fn offer(time: &mut [u64], before: &mut [usize], v: usize, u: usize, c: u64)
-    requires { ⌜ (v < length (now time)) × (v < length (now before)) ⌝ }
-    ensures { λ _. ⌜ now (time .exit) ≡ set (now (time .entry)) v (ite (ltb c (getD (now (time .entry)) v 0)) c (getD (now (time .entry)) v 0)) ⌝ }
-    ensures { λ _. ⌜ now (before .exit) ≡ set (now (before .entry)) v (ite (ltb c (getD (now (time .entry)) v 0)) u (getD (now (before .entry)) v 0)) ⌝ }
+fn offer(time: &mut [u64], backs: &mut [usize], v: usize, u: usize, arrival: u64)
+    requires { ⌜ ReadyToOffer (now time) (now backs) v ⌝ }
+    ensures { λ _. ⌜ OfferMade (now (time .entry)) (now (backs .entry)) v u arrival (now (time .exit)) (now (backs .exit)) ⌝ }
 {
-    if c < time[v] {
-        time[v] = c;
-        before[v] = u;
+    if arrival < time[v] {
+        time[v] = arrival;
+        backs[v] = u;
     }
 }
 
 // The arrivals at copies from u: the time at u, the time of the part from u, and the cost of the copy.
 fn offer_copies(
     time: &mut [u64],
-    before: &mut [usize],
+    backs: &mut [usize],
     u: usize,
     part: &[u64],
-    copy: u64,
+    copies: &[u32],
     top: usize,
 )
-    requires { ⌜ (length (now time) ≡ positions) × (length (now before) ≡ positions) × (length (now part) ≡ positions) ⌝ }
-    requires { ⌜ (u ≤ top) × (top < positions) × (copy ≤ costLimit) ⌝ }
-    requires { ⌜ (getD (now time) u 0 ≤ none) × ((w : ℕ) → w ≤ top → getD (now part) w 0 ≤ none) ⌝ }
-    ensures { λ _. ⌜ Offered (now (time .entry)) (now (before .entry)) u (top + 1) (λ w. getD (now (time .entry)) u 0 + getD (now (part .entry)) w 0 + copy) (now (time .exit)) (now (before .exit)) ⌝ }
+    requires { ⌜ ReadyForCopies (now time) (now backs) u (now part) (now copies) top ⌝ }
+    ensures { λ _. ⌜ Offered (now (time .entry)) (now (backs .entry)) u (top + 1) (λ w. getD (now (time .entry)) u 0 + getD (now (part .entry)) w 0 + getD (now (copies .entry)) w 0) (now (time .exit)) (now (backs .exit)) ⌝ }
 {
     let t = time[u];
     let mut v = u + 1;
     while v <= top {
-        offer(time, before, v, u, t + part[v] + copy);
+        offer(time, backs, v, u, t + part[v] + wide(copies[v]));
         v += 1;
     }
 }
 
-// The arrival at the verification v from that at u, if the stretch is allowed.
-fn offer_verification(
-    time: &mut [u64],
-    before: &mut [usize],
-    t: &[u64],
-    u: usize,
-    v: usize,
-    q: u64,
-    disk: u64,
-    memory: u64,
-)
-    requires { ⌜ (v < length (now time)) × (v < length (now before)) × (getD (now time) v 0 ≤ none) ⌝ }
-    requires { ⌜ (u < v) × (v < positions) × Usable v (now t) ⌝ }
-    requires { ⌜ (q < none) × (disk ≤ none + costLimit) × (memory ≤ costLimit) ⌝ }
-    ensures { λ _. ⌜ now (time .exit) ≡ set (now (time .entry)) v (ite (ltb (arrivalAt (now (t .entry)) disk memory u q v) (getD (now (time .entry)) v 0)) (arrivalAt (now (t .entry)) disk memory u q v) (getD (now (time .entry)) v 0)) ⌝ }
-    ensures { λ _. ⌜ now (before .exit) ≡ set (now (before .entry)) v (ite (ltb (arrivalAt (now (t .entry)) disk memory u q v) (getD (now (time .entry)) v 0)) u (getD (now (before .entry)) v 0)) ⌝ }
-{
-    let f = entry(t, u, v);
-    if f.error == 0 {
-        return;
-    }
-    offer(
-        time,
-        before,
-        v,
-        u,
-        q + pricing::stretch_time(f, disk, q, memory),
-    );
-}
-
-// The arrivals at verifications from u. The last copies are the same for all of them: disk is R_D' + M', memory is R_M'.
+// The arrivals at verifications from u, by each allowed stretch. The last copies, and so the recoveries, are the same for all of them.
 fn offer_verifications(
     time: &mut [u64],
-    before: &mut [usize],
-    t: &[u64],
+    backs: &mut [usize],
+    t: &[u32],
+    r: Recoveries,
     u: usize,
-    disk: u64,
-    memory: u64,
     top: usize,
 )
-    requires { ⌜ (length (now time) ≡ positions) × (length (now before) ≡ positions) × Usable top (now t) ⌝ }
-    requires { ⌜ (u ≤ top) × (top < positions) × (disk ≤ none + costLimit) × (memory ≤ costLimit) ⌝ }
-    requires { ⌜ (getD (now time) u 0 < none) × ((w : ℕ) → w ≤ top → getD (now time) w 0 ≤ none) ⌝ }
-    ensures { λ _. ⌜ Offered (now (time .entry)) (now (before .entry)) u (top + 1) (arrivalAt (now (t .entry)) disk memory u (getD (now (time .entry)) u 0)) (now (time .exit)) (now (before .exit)) ⌝ }
+    requires { ⌜ ReadyForVerifications (now time) (now backs) (now t) r u top ⌝ }
+    ensures { λ _. ⌜ Offered (now (time .entry)) (now (backs .entry)) u (top + 1) (arrivalAt (now (t .entry)) r u (getD (now (time .entry)) u 0)) (now (time .exit)) (now (backs .exit)) ⌝ }
 {
+    let r = r;
     let q = time[u];
     let mut v = u + 1;
     while v <= top {
-        offer_verification(time, before, t, u, v, q, disk, memory);
+        let f = entry(t, u, v);
+        if f.both != 0 {
+            offer(time, backs, v, u, q + stretch_time(f, r, q));
+        }
         v += 1;
     }
 }
 
-// The least Q(v) from the memory copy m, for each v up to the top, in fresh rows that the caller lends.
+// The least Q(v) from the memory copy m, for each v up to the top.
 pub fn verification_row(
     time: &mut [u64],
-    before: &mut [usize],
-    t: &[u64],
+    backs: &mut [usize],
+    t: &[u32],
+    r: Recoveries,
     m: usize,
-    disk: u64,
-    memory: u64,
     top: usize,
 )
-    requires { ⌜ (now time ≡ replicate positions none) × (now before ≡ replicate positions 0) × Usable top (now t) ⌝ }
-    requires { ⌜ (m ≤ top) × (top < positions) × (disk ≤ none + costLimit) × (memory ≤ costLimit) ⌝ }
-    ensures { λ _. ⌜ Filled none m (arrivalAt (now (t .entry)) disk memory) top (now (time .exit)) (now (before .exit)) ⌝ }
+    requires { ⌜ ReadyForRow (now time) (now backs) (now t) r m top ⌝ }
+    ensures { λ _. ⌜ Filled none m (arrivalAt (now (t .entry)) r) top (now (time .exit)) (now (backs .exit)) ⌝ }
 {
+    let r = r;
     time[m] = 0;
     let mut u = m;
     while u < top {
         if time[u] < NONE {
-            offer_verifications(time, before, t, u, disk, memory, top);
+            offer_verifications(time, backs, t, r, u, top);
         }
         u += 1;
     }
 }
 
 // The arrivals at memory copies from that at m, with the last disk copy d.
-fn offer_memory(
-    time: &mut [u64],
-    before: &mut [usize],
-    t: &[u64],
-    job: Job,
-    d: usize,
-    m: usize,
-    top: usize,
-)
-    requires { ⌜ (length (now time) ≡ positions) × (length (now before) ≡ positions) × TableOf job (now t) × Sound job ⌝ }
-    requires { ⌜ (m ≤ top) × (top ≤ job .tasks) × (getD (now time) m 0 < none) ⌝ }
-    ensures { λ _. ⌜ Offered (now (time .entry)) (now (before .entry)) m (top + 1) (toMemory (chainOf job) none d m (getD (now (time .entry)) m 0)) (now (time .exit)) (now (before .exit)) ⌝ }
+fn offer_memory(time: &mut [u64], backs: &mut [usize], t: &[u32], d: usize, m: usize, top: usize)
+    requires { ⌜ ReadyForMemory (now time) (now backs) (now t) d m top ⌝ }
+    ensures { λ _. ⌜ Offered (now (time .entry)) (now (backs .entry)) m (top + 1) (toMemory (chainIn (now (t .entry))) none d m (getD (now (time .entry)) m 0)) (now (time .exit)) (now (backs .exit)) ⌝ }
 {
-    let p = job.platform;
-    let mt = time[m];
-    let mut q = [NONE; 65];
-    let mut from = [0usize; 65];
-    let disk = marks::from_disk(p, d) + mt;
-    verification_row(&mut q, &mut from, t, m, disk, marks::from_memory(p, m), top);
-    offer_copies(time, before, m, &q, p.cm as u64, top);
+    let r = recoveries(t, d, m, time[m]);
+    let mut q = [NONE; POSITIONS];
+    let mut from = [0usize; POSITIONS];
+    verification_row(&mut q, &mut from, t, r, m, top);
+    offer_copies(time, backs, m, &q, memory_copies(t), top);
 }
 
-// The least M(v) from the disk copy d, for each v up to the top, in fresh rows that the caller lends.
-pub fn memory_row(time: &mut [u64], before: &mut [usize], t: &[u64], job: Job, d: usize, top: usize)
-    requires { ⌜ (now time ≡ replicate positions none) × (now before ≡ replicate positions 0) × TableOf job (now t) × Sound job ⌝ }
-    requires { ⌜ (d ≤ top) × (top ≤ job .tasks) ⌝ }
-    ensures { λ _. ⌜ Filled none d (toMemory (chainOf job) none d) top (now (time .exit)) (now (before .exit)) ⌝ }
+// The least M(v) from the disk copy d, for each v up to the top.
+pub fn memory_row(time: &mut [u64], backs: &mut [usize], t: &[u32], d: usize, top: usize)
+    requires { ⌜ ReadyForMemoryRow (now time) (now backs) (now t) d top ⌝ }
+    ensures { λ _. ⌜ Filled none d (toMemory (chainIn (now (t .entry))) none d) top (now (time .exit)) (now (backs .exit)) ⌝ }
 {
-    let job = job;
     time[d] = 0;
     let mut m = d;
     while m < top {
         if time[m] < NONE {
-            offer_memory(time, before, t, job, d, m, top);
+            offer_memory(time, backs, t, d, m, top);
         }
         m += 1;
     }
 }
 
 // The arrivals at disk copies from that at d.
-fn offer_disk(time: &mut [u64], before: &mut [usize], t: &[u64], job: Job, d: usize)
-    requires { ⌜ (length (now time) ≡ positions) × (length (now before) ≡ positions) × TableOf job (now t) × Sound job ⌝ }
-    requires { ⌜ (d ≤ job .tasks) × (getD (now time) d 0 < none) ⌝ }
-    ensures { λ _. ⌜ Offered (now (time .entry)) (now (before .entry)) d (job .tasks + 1) (toDisk (chainOf job) none d (getD (now (time .entry)) d 0)) (now (time .exit)) (now (before .exit)) ⌝ }
+fn offer_disk(time: &mut [u64], backs: &mut [usize], t: &[u32], d: usize, n: usize)
+    requires { ⌜ ReadyForDisk (now time) (now backs) (now t) d n ⌝ }
+    ensures { λ _. ⌜ Offered (now (time .entry)) (now (backs .entry)) d (n + 1) (toDisk (chainIn (now (t .entry))) none d (getD (now (time .entry)) d 0)) (now (time .exit)) (now (backs .exit)) ⌝ }
 {
-    let p = job.platform;
-    let n = job.tasks;
-    let mut mt = [NONE; 65];
-    let mut from = [0usize; 65];
-    memory_row(&mut mt, &mut from, t, job, d, n);
-    offer_copies(time, before, d, &mt, p.cd as u64, n);
+    let mut mt = [NONE; POSITIONS];
+    let mut from = [0usize; POSITIONS];
+    memory_row(&mut mt, &mut from, t, d, n);
+    offer_copies(time, backs, d, &mt, disk_copies(t), n);
 }
 
-// The least D(v), for each v, in fresh rows that the caller lends.
-pub fn disk_row(time: &mut [u64], before: &mut [usize], t: &[u64], job: Job)
-    requires { ⌜ (now time ≡ replicate positions none) × (now before ≡ replicate positions 0) × TableOf job (now t) × Sound job ⌝ }
-    ensures { λ _. ⌜ Filled none 0 (toDisk (chainOf job) none) (job .tasks) (now (time .exit)) (now (before .exit)) ⌝ }
+// The least D(v), for each v up to n.
+pub fn disk_row(time: &mut [u64], backs: &mut [usize], t: &[u32], n: usize)
+    requires { ⌜ ReadyForDiskRow (now time) (now backs) (now t) n ⌝ }
+    ensures { λ _. ⌜ Filled none 0 (toDisk (chainIn (now (t .entry))) none) n (now (time .exit)) (now (backs .exit)) ⌝ }
 {
-    let job = job;
-    let n = job.tasks;
     time[0] = 0;
     let mut d: usize = 0;
     while d < n {
         if time[d] < NONE {
-            offer_disk(time, before, t, job, d);
+            offer_disk(time, backs, t, d, n);
         }
         d += 1;
     }

@@ -1,88 +1,114 @@
-// The growth sums of each pair of ends, worked out once. The planner alone calls this, for a job that passed its checks.
+// The table that holds a chain: the factors of each pair of ends u < v, and the costs of each position.
 ghost use mathlib.Core.Path.{_≡_};
-ghost use Prim.Native.Nat.{_+_, _*_, _<_, _≤_};
-ghost use lib.ListN.{length, set};
-ghost use Rattle.sheet.specs.Job.{costLimit, Sound};
-ghost use Rattle.search.specs.Rows.{positions};
-ghost use Rattle.search.specs.Table.{tableLength, entryOf, Tabled, TableOf, Totals, Growing, difference};
-use pricing::Factors;
-use sheet::Job;
-use sheet::Platform;
+ghost use Prim.Native.Nat.{_<_};
+ghost use lib.ListN.{length, take, drop};
+ghost use Rattle.job.specs.Job.{positions};
+ghost use Rattle.search.specs.Working.Table.{half, tableLength, cmStart, cdStart, entryOf, putPair, putCosts, IsPair, InTable, PairFits, ReadyForPair, ReadyForCosts, ReadyForRecoveries, RecoveriesIn};
+use chain::Factors;
+use chain::Recoveries;
+use job::POSITIONS;
 
-// One entry for each position from 0 to 64.
-pub const POSITIONS: usize = 65;
+// Pairs of positions u < v.
+const PAIRS: usize = POSITIONS * (POSITIONS - 1) / 2;
 
-// Three entries for each pair of positions.
-pub const TABLE_LENGTH: usize = 12_675;
+// A pair has its work in two halves, then G(y_s) and G(y_s + y_f), each of 32 bits.
+const PAIR_ENTRIES: usize = 4;
 
-// The weight up to each position.
-fn totals(job: Job) -> [u64; 65]
-    requires { ⌜ Sound job ⌝ }
-    ensures { λ r. ⌜ Totals (job .weights) (job .tasks) r ⌝ }
-{
-    let n = job.tasks;
-    let weights = job.weights;
-    let mut sums = [0u64; 65];
-    let mut j: usize = 0;
-    while j < n {
-        sums[j + 1] = sums[j] + (weights[j] as u64);
-        j += 1;
-    }
-    sums
+const HALF: u64 = 1 << 32;
+
+// After the pairs, a column for each cost: C_M, C_D, R_D' and R_M' by position.
+const CM_START: usize = PAIR_ENTRIES * PAIRS;
+
+const CD_START: usize = CM_START + POSITIONS;
+
+const RD_START: usize = CD_START + POSITIONS;
+
+const RM_START: usize = RD_START + POSITIONS;
+
+pub const TABLE_LENGTH: usize = RM_START + POSITIONS;
+
+// The costs of a position.
+pub struct Costs {
+    pub cm: u64,
+    pub cd: u64,
+    pub rd: u64,
+    pub rm: u64,
 }
 
-fn put_entry(t: &mut [u64], at: usize, f: Factors)
-    requires { ⌜ at + 2 < length (now t) ⌝ }
-    ensures { λ _. ⌜ now (t .exit) ≡ set (set (set (now (t .entry)) at (f .work)) (at + 1) (f .silent)) (at + 2) (f .error) ⌝ }
+pub fn wide(x: u32) -> u64
+    ensures { λ r. ⌜ (r ≡ x) × (r < half) ⌝ }
 {
-    t[at] = f.work;
-    t[at + 1] = f.silent;
-    t[at + 2] = f.error;
+    x as u64
 }
 
-// The factors of one pair of ends, if it is a stretch of the n tasks.
-fn fill_pair(t: &mut [u64], platform: Platform, n: usize, sums: &[u64], p: usize)
-    requires { ⌜ (p < positions * positions) × (n < positions) × (platform .v ≤ costLimit) ⌝ }
-    requires { ⌜ Growing n (now sums) ⌝ }
-    requires { ⌜ Tabled platform n (difference (now sums)) p (now t) ⌝ }
-    ensures { λ _. ⌜ Tabled platform n (difference (now (sums .entry))) (p + 1) (now (t .exit)) ⌝ }
+// Which pair (u, v) is: the pairs of a near end stand together, the last near end first.
+fn pair_index(u: usize, v: usize) -> usize
+    requires { ⌜ IsPair u v ⌝ }
+    ensures { λ r. ⌜ InTable u v r ⌝ }
 {
-    let u = p / POSITIONS;
-    let v = p % POSITIONS;
-    if v <= u {
-        return;
-    }
-    if n < v {
-        return;
-    }
-    let f = pricing::stretch_factors(platform, sums[v] - sums[u]);
-    put_entry(t, 3 * p, f);
-}
-
-// The factors of each stretch of the job.
-pub fn fill(t: &mut [u64], job: Job)
-    requires { ⌜ (length (now t) ≡ tableLength) × Sound job ⌝ }
-    ensures { λ _. ⌜ TableOf job (now (t .exit)) ⌝ }
-{
-    let n = job.tasks;
-    let platform = job.platform;
-    let sums = totals(job);
-    let mut p: usize = 0;
-    while p < POSITIONS * POSITIONS {
-        fill_pair(t, platform, n, &sums, p);
-        p += 1;
-    }
+    let later = POSITIONS - 1 - u;
+    later * (later - 1) / 2 + (v - u - 1)
 }
 
 // The factors of the stretch from u to v.
-pub fn entry(t: &[u64], u: usize, v: usize) -> Factors
-    requires { ⌜ (length (now t) ≡ tableLength) × (u < positions) × (v < positions) ⌝ }
+pub fn entry(t: &[u32], u: usize, v: usize) -> Factors
+    requires { ⌜ PairFits (now t) u v ⌝ }
     ensures { λ r. ⌜ r ≡ entryOf (now (t .entry)) u v ⌝ }
 {
-    let at = 3 * (POSITIONS * u + v);
+    let at = PAIR_ENTRIES * pair_index(u, v);
     Factors {
-        work: t[at],
-        silent: t[at + 1],
-        error: t[at + 2],
+        work: wide(t[at]) + HALF * wide(t[at + 1]),
+        silent: wide(t[at + 2]),
+        both: wide(t[at + 3]),
+    }
+}
+
+// Puts the factors of the stretch from u to v in their place.
+pub fn put_pair(t: &mut [u32], u: usize, v: usize, f: Factors)
+    requires { ⌜ ReadyForPair (now t) u v f ⌝ }
+    ensures { λ _. ⌜ now (t .exit) ≡ putPair (now (t .entry)) u v f ⌝ }
+{
+    let at = PAIR_ENTRIES * pair_index(u, v);
+    t[at] = (f.work % HALF) as u32;
+    t[at + 1] = (f.work / HALF) as u32;
+    t[at + 2] = f.silent as u32;
+    t[at + 3] = f.both as u32;
+}
+
+// Puts the costs of the position v in their columns.
+pub fn put_costs(t: &mut [u32], v: usize, c: Costs)
+    requires { ⌜ ReadyForCosts (now t) v c ⌝ }
+    ensures { λ _. ⌜ now (t .exit) ≡ putCosts (now (t .entry)) v c ⌝ }
+{
+    t[CM_START + v] = c.cm as u32;
+    t[CD_START + v] = c.cd as u32;
+    t[RD_START + v] = c.rd as u32;
+    t[RM_START + v] = c.rm as u32;
+}
+
+// The column of C_M.
+pub fn memory_copies(t: &[u32]) -> &[u32]
+    requires { ⌜ length (now t) ≡ tableLength ⌝ }
+    ensures { λ r. ⌜ now r ≡ take positions (drop cmStart (now (t .entry))) ⌝ }
+{
+    &t[CM_START..CD_START]
+}
+
+// The column of C_D.
+pub fn disk_copies(t: &[u32]) -> &[u32]
+    requires { ⌜ length (now t) ≡ tableLength ⌝ }
+    ensures { λ r. ⌜ now r ≡ take positions (drop cdStart (now (t .entry))) ⌝ }
+{
+    &t[CD_START..RD_START]
+}
+
+// R_D' + M' and R_M' where d and m are the last copies, and mt is M'.
+pub fn recoveries(t: &[u32], d: usize, m: usize, mt: u64) -> Recoveries
+    requires { ⌜ ReadyForRecoveries (now t) d m mt ⌝ }
+    ensures { λ r. ⌜ RecoveriesIn (now (t .entry)) d m mt r ⌝ }
+{
+    Recoveries {
+        disk: wide(t[RD_START + d]) + mt,
+        memory: wide(t[RM_START + m]),
     }
 }

@@ -1,59 +1,48 @@
-// The marks of the plan, by walking back from the last task over the earliest positions before. The planner alone calls this, after the rows.
-ghost use mathlib.Core.Path.{_≡_};
-ghost use Prim.Native.Nat.{_<_, _≤_};
-ghost use lib.ListN.{length};
-ghost use Rattle.setting.specs.Search.{toMemory, leastD, leastM, backD, backM};
-ghost use Rattle.sheet.specs.Job.{Sound};
-ghost use Rattle.pricing.specs.Chain.{chainOf};
-ghost use Rattle.pricing.specs.Price.{none};
-ghost use Rattle.search.specs.Rows.{Filled};
-ghost use Rattle.search.specs.Table.{TableOf};
-ghost use Rattle.search.specs.Walk.{DiskBacks, Walking, Before, PlannedMarks};
+// The marks of the plan, by walking back from the last task over the earliest positions before.
+ghost use Rattle.units.specs.Limits.{none};
+ghost use Rattle.chain.specs.Time.{disk};
+ghost use Rattle.chain.specs.Working.Search.{backD};
+ghost use Rattle.search.specs.Working.Table.{chainIn};
+ghost use Rattle.search.specs.Working.Walk.{StepsBack, PlannedMarks, ReadyAtCopy, AtCopy, ReadyAtDisk, ReadyToStep, ReadyToWalk};
 use crate::rows::memory_row;
 use crate::rows::verification_row;
-use pricing::NONE;
-use sheet::Job;
+use crate::table::recoveries;
+use chain::DISK;
+use chain::MEMORY;
+use chain::VERIFICATION;
+use job::POSITIONS;
+use job::TASK_LIMIT;
+use units::NONE;
 
-const VERIFICATION: u8 = 1;
-
-const MEMORY: u8 = 2;
-
-const DISK: u8 = 3;
-
-// A place of the walk: v has mark k, the last copies before it are d and m. `times` and `copies` are the memory row from d, `checks` the positions before
+// A step of the walk: v has mark k, the last copies before it are d and m. `times` and `copies` are the memory row from d, `checks` the positions before
 // of the verifications from m.
 pub struct Walk {
     pub k: u8,
     pub d: usize,
     pub m: usize,
     pub v: usize,
-    pub times: [u64; 65],
-    pub copies: [usize; 65],
-    pub checks: [usize; 65],
+    pub times: [u64; POSITIONS],
+    pub copies: [usize; POSITIONS],
+    pub checks: [usize; POSITIONS],
 }
 
-// The place at the copy v with mark k, whose last disk copy is d.
+// The step at the copy v with mark k, whose last disk copy is d.
 fn at_copy(
-    t: &[u64],
-    job: Job,
+    t: &[u32],
     k: u8,
     d: usize,
     v: usize,
-    times: [u64; 65],
-    copies: [usize; 65],
+    times: [u64; POSITIONS],
+    copies: [usize; POSITIONS],
 ) -> Walk
-    requires { ⌜ (TableOf job (now t)) × Sound job × (d < v) × (v ≤ job .tasks) ⌝ }
-    requires { ⌜ (leastD (chainOf job) none d < none) × (leastM (chainOf job) none d v < none) ⌝ }
-    requires { ⌜ (2 ≤ k) × (k ≤ 3) × (3 ≤ k → d ≡ backD (chainOf job) none v) ⌝ }
-    requires { ⌜ Filled none d (toMemory (chainOf job) none d) v times copies ⌝ }
-    ensures { λ r. ⌜ Walking job r × (r .k ≡ k) × (r .d ≡ d) × (r .m ≡ backM (chainOf job) none d v) × (r .v ≡ v) ⌝ }
+    requires { ⌜ ReadyAtCopy (now t) k d v times copies ⌝ }
+    ensures { λ r. ⌜ AtCopy (now (t .entry)) k d v r ⌝ }
 {
-    let p = job.platform;
     let m = copies[v];
-    let mut q = [NONE; 65];
-    let mut checks = [0usize; 65];
-    let disk = marks::from_disk(p, d) + times[m];
-    verification_row(&mut q, &mut checks, t, m, disk, marks::from_memory(p, m), v);
+    let r = recoveries(t, d, m, times[m]);
+    let mut q = [NONE; POSITIONS];
+    let mut checks = [0usize; POSITIONS];
+    verification_row(&mut q, &mut checks, t, r, m, v);
     Walk {
         k,
         d,
@@ -65,23 +54,22 @@ fn at_copy(
     }
 }
 
-// The place at the disk copy v.
-fn at_disk(t: &[u64], job: Job, backs: &[usize], v: usize) -> Walk
-    requires { ⌜ (TableOf job (now t)) × Sound job × (0 < v) × (v ≤ job .tasks) ⌝ }
-    requires { ⌜ DiskBacks job (now backs) × (leastD (chainOf job) none v < none) ⌝ }
-    ensures { λ r. ⌜ Walking job r × (r .k ≡ 3) × (r .d ≡ backD (chainOf job) none v) × (r .m ≡ backM (chainOf job) none (backD (chainOf job) none v) v) × (r .v ≡ v) ⌝ }
+// The step at the disk copy v.
+fn at_disk(t: &[u32], backs: &[usize], v: usize) -> Walk
+    requires { ⌜ ReadyAtDisk (now t) (now backs) v ⌝ }
+    ensures { λ r. ⌜ AtCopy (now (t .entry)) disk (backD (chainIn (now (t .entry))) none v) v r ⌝ }
 {
     let d = backs[v];
-    let mut times = [NONE; 65];
-    let mut copies = [0usize; 65];
-    memory_row(&mut times, &mut copies, t, job, d, v);
-    at_copy(t, job, DISK, d, v, times, copies)
+    let mut times = [NONE; POSITIONS];
+    let mut copies = [0usize; POSITIONS];
+    memory_row(&mut times, &mut copies, t, d, v);
+    at_copy(t, DISK, d, v, times, copies)
 }
 
-// The place before w; at 0 where the walk is over.
-fn step_back(t: &[u64], job: Job, backs: &[usize], w: Walk) -> Walk
-    requires { ⌜ (TableOf job (now t)) × Sound job × DiskBacks job (now backs) × Walking job w ⌝ }
-    ensures { λ r. ⌜ Before job w r ⌝ }
+// The step before w; at 0 where the walk is over.
+fn step_back(t: &[u32], backs: &[usize], w: Walk) -> Walk
+    requires { ⌜ ReadyToStep (now t) (now backs) w ⌝ }
+    ensures { λ r. ⌜ StepsBack (now (t .entry)) w r ⌝ }
 {
     let d = w.d;
     let m = w.m;
@@ -102,10 +90,10 @@ fn step_back(t: &[u64], job: Job, backs: &[usize], w: Walk) -> Walk
         };
     }
     if m != d {
-        return at_copy(t, job, MEMORY, d, m, times, copies);
+        return at_copy(t, MEMORY, d, m, times, copies);
     }
     if d != 0 {
-        return at_disk(t, job, backs, d);
+        return at_disk(t, backs, d);
     }
     Walk {
         k: 0,
@@ -118,19 +106,18 @@ fn step_back(t: &[u64], job: Job, backs: &[usize], w: Walk) -> Walk
     }
 }
 
-// The marks of the plan, whose least time is below none.
-pub fn plan_marks(t: &[u64], job: Job, backs: &[usize]) -> [u8; 64]
-    requires { ⌜ (TableOf job (now t)) × Sound job × DiskBacks job (now backs) × (leastD (chainOf job) none (job .tasks) < none) ⌝ }
-    ensures { λ r. ⌜ PlannedMarks job r ⌝ }
+// The marks of the plan of n tasks, whose least time is below none; `backs` is of the disk row.
+pub fn plan_marks(t: &[u32], backs: &[usize], n: usize) -> [u8; TASK_LIMIT]
+    requires { ⌜ ReadyToWalk (now t) n (now backs) ⌝ }
+    ensures { λ r. ⌜ PlannedMarks (now (t .entry)) n r ⌝ }
 {
-    let job = job;
-    let mut marks = [0u8; 64];
-    let mut w = at_disk(t, job, backs, job.tasks);
+    let mut marks = [0u8; TASK_LIMIT];
+    let mut w = at_disk(t, backs, n);
     while 0 < w.v {
         let v = w.v;
         let k = w.k;
         marks[v - 1] = k;
-        w = step_back(t, job, backs, w);
+        w = step_back(t, backs, w);
     }
     marks
 }

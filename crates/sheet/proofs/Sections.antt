@@ -1,68 +1,99 @@
 -- What checks 1 to 6 leave of an accepted layout: the task count is in range, and each section lies within the sheet. Assumes nothing.
 use Prim.Native.Nat.{ℕ, zero, suc, _+_, _≤_, _<_}
-use mathlib.Core.Path.{_≡_}
-use mathlib.Core.Bool.{Bool, true, false, not}
-use mathlib.Core.List.{List, [], _∷_}
+use mathlib.Core.Path.{_≡_, refl}
+use mathlib.Core.Bool.{Bool, true, false, cond, not}
+use mathlib.Core.List.{List}
 use native.Mathlib.Omega.{arith}
-use borrow.Author.Tests.{ltb-false, eqb-false, eqb-true, not-false}
+use borrow.Author.Tests.{ltb-false, eqb-true, not-false}
 use lib.Dec.{lit<, eqb, ltb}
 use lib.ListN.{length}
-use Rattle.units.specs.Choice.{ite}
-use Rattle.sheet.specs.Refusal.{first}
-use Rattle.sheet.specs.Job.{taskLimit, badCount}
-use Rattle.sheet.specs.Sheet.{tasks, offset, size, kind, place, sectionEnd, misplaced, oneOfEach, platformKind, weightsKind, platformLength, weightsLength, badSections, badPlaces, badKinds, layoutConditions}
-use Rattle.sheet.proofs.Refusals.{Numbered, first-clear, or-fails}
+use Rattle.lists.proofs.Lists.{or-fails}
+use Rattle.refusals.specs.Refusals.{first, has, distinct, Numbered}
+use Rattle.refusals.proofs.Refusals.{first-clear}
+use Rattle.job.specs.Checks.{badCount}
+use Rattle.job.proofs.Ranges.{Counted, count-range}
+use Rattle.sheet.specs.Layout.{
+  tasks,
+  offset,
+  size,
+  kind,
+  indexOf,
+  badExtent,
+  oneOfEach,
+  platformKind,
+  weightsKind,
+  platformLength,
+  weightsLength,
+  leastOffset,
+  badLength,
+  badForm,
+  badSections,
+  badExtents,
+  badKinds,
+  headerConditions,
+  layoutConditions,
+}
+
+pub header-numbered : (s : List ℕ) → Numbered (headerConditions s)
+unfolding has distinct
+header-numbered s = refl
 
 pub layout-numbered : (s : List ℕ) → Numbered (layoutConditions s)
-layout-numbered s = (lit< tt, (lit< tt, (lit< tt, (lit< tt, (lit< tt, (lit< tt, tt))))))
+unfolding has distinct
+layout-numbered s = refl
 
-pub count-range : (n : ℕ) → badCount n ≡ false → (0 < n) × (n ≤ taskLimit)
-unfolding badCount
-count-range n e = (omega (arith, eqb-false n 0 (or-fails _ _ e .0)), ltb-false taskLimit n (or-fails (eqb n 0) _ e .1))
+-- what passing checks 1 to 6 means
+pub record LayoutPassed (s : List ℕ) : Type 0 where
+  pub length : badLength s ≡ false
+  pub form : badForm s ≡ false
+  pub count : badCount (tasks s) ≡ false
+  pub sections : badSections s ≡ false
+  pub extents : badExtents s ≡ false
+  pub kinds : badKinds s ≡ false
 
-placed : (before offset size length : ℕ) → misplaced before offset size length ≡ false → offset + size ≤ length
-unfolding misplaced
-placed b o z l e = ltb-false l (o + z) (or-fails (ltb o b) _ (or-fails (ltb o 20) _ (or-fails (eqb z 0) _ e .1) .1) .1)
+pub layout-passed : (s : List ℕ) → first (layoutConditions s) ≡ 0 → LayoutPassed s
+layout-passed s e =
+    let clear = first-clear (layoutConditions s) (layout-numbered s) e in
+    record { length = clear 0; form = clear 1; count = clear 2; sections = clear 3; extents = clear 4; kinds = clear 5 }
 
-place-lt : (s : List ℕ) (k : ℕ) → place s k < 2
-unfolding place
-place-lt s k = go (eqb (kind s 0) k)
+placed : (before offset size length : ℕ) → badExtent before offset size length ≡ false → offset + size ≤ length
+unfolding badExtent
+placed b o z l e =
+    let after-size = or-fails (eqb z 0) _ e .1 in
+    let after-least = or-fails (ltb o leastOffset) _ after-size .1 in
+    ltb-false l (o + z) (or-fails (ltb o b) _ after-least .1)
+
+index-lt : (s : List ℕ) (k : ℕ) → indexOf s k < 2
+unfolding indexOf
+index-lt s k = go (eqb (kind s 0) k)
   where
-    go : (b : Bool) → ite b 0 1 < 2
+    go : (b : Bool) → cond b 0 1 < 2
     go true = lit< tt
     go false = lit< tt
 
 module _ (s : List ℕ) (clear : first (layoutConditions s) ≡ 0) where
-  after2 : first (record { number = 3; holds = badCount (tasks s) } ∷ record { number = 4; holds = badSections s } ∷ record { number = 5; holds = badPlaces s } ∷ record { number = 6; holds = badKinds s } ∷ []) ≡ 0
-  after2 = first-clear _ _ (lit< tt) (first-clear _ _ (lit< tt) clear .1) .1
+  passed : LayoutPassed s
+  passed = layout-passed s clear
 
-  pub layout-count : badCount (tasks s) ≡ false
-  layout-count = first-clear _ _ (lit< tt) after2 .0
-
-  pub layout-tasks : (0 < tasks s) × (tasks s ≤ taskLimit)
-  layout-tasks = count-range (tasks s) layout-count
-
-  places : badPlaces s ≡ false
-  places = first-clear _ _ (lit< tt) (first-clear _ _ (lit< tt) (first-clear _ _ (lit< tt) after2 .1) .1) .0
-
-  kinds : badKinds s ≡ false
-  kinds =
-      first-clear _ _ (lit< tt) (first-clear _ _ (lit< tt) (first-clear _ _ (lit< tt) (first-clear _ _ (lit< tt) after2 .1) .1) .1) .0
+  pub layout-tasks : Counted (tasks s)
+  layout-tasks = count-range (tasks s) (passed .count)
 
   -- the weights section has its length
-  pub layout-weights : size s (place s weightsKind) ≡ weightsLength (tasks s)
+  pub layout-weights : size s (indexOf s weightsKind) ≡ weightsLength (tasks s)
   unfolding badKinds
   layout-weights =
-      let rest = or-fails (not (oneOfEach (kind s 0) (kind s 1))) _ kinds .1 in
-      eqb-true _ _ (not-false (eqb (size s (place s weightsKind)) (weightsLength (tasks s))) (or-fails (not (eqb (size s (place s platformKind)) platformLength)) _ rest .1))
+      let lengths = or-fails (not (oneOfEach (kind s 0) (kind s 1))) _ (passed .kinds) .1 in
+      let weights = or-fails (not (eqb (size s (indexOf s platformKind)) platformLength)) _ lengths .1 in
+      eqb-true _ _ (not-false (eqb (size s (indexOf s weightsKind)) (weightsLength (tasks s))) weights)
 
   section-within : (i : ℕ) → i < 2 → offset s i + size s i ≤ length s
-  unfolding badPlaces
-  section-within zero h = placed 0 (offset s 0) (size s 0) (length s) (or-fails _ _ places .0)
-  section-within (suc zero) h = placed (offset s 0 + size s 0) (offset s 1) (size s 1) (length s) (or-fails (misplaced 0 (offset s 0) (size s 0) (length s)) _ places .1)
+  unfolding badExtents
+  section-within zero h = placed 0 (offset s 0) (size s 0) (length s) (or-fails _ _ (passed .extents) .0)
+  section-within (suc zero) h =
+      placed (offset s 0 + size s 0) (offset s 1) (size s 1) (length s)
+      (or-fails (badExtent 0 (offset s 0) (size s 0) (length s)) _ (passed .extents) .1)
   section-within (suc (suc i)) h = absurd (omega arith)
 
   -- each section lies within the sheet
-  pub section-ends : (k : ℕ) → sectionEnd s k ≤ length s
-  unfolding sectionEnd
-  section-ends k = section-within (place s k) (place-lt s k)
+  pub section-ends : (k : ℕ) → offset s (indexOf s k) + size s (indexOf s k) ≤ length s
+  section-ends k = section-within (indexOf s k) (index-lt s k)

@@ -1,5 +1,5 @@
-pub mod Refusal
 pub mod Bytes
-pub mod Job
-pub mod Sheet
+pub mod Layout
 pub mod Lookup
+pub mod Reading
+pub mod Working

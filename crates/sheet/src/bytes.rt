@@ -1,7 +1,9 @@
 // Bytes and fields of a part of a sheet. A byte past the end reads as 0, so that no check depends on one before it.
 ghost use mathlib.Core.Path.{_≡_};
-ghost use Prim.Native.Nat.{_+_, _*_, _<_, _≤_, _^_};
+ghost use Prim.Native.Nat.{_+_, _*_, _<_, _^_};
 ghost use Rattle.sheet.specs.Bytes.{byteAt, fieldAt};
+
+pub const FIELD_LENGTH: usize = 4;
 
 fn wide(b: u8) -> u64
     ensures { λ r. ⌜ (r ≡ b) × (r < 2 ^ 8) ⌝ }

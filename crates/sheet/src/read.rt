@@ -1,57 +1,69 @@
 // Reading a sheet: its values, or the first of checks 1 to 8 that holds.
 ghost use mathlib.Core.Path.{_≡_};
-ghost use Prim.Native.Nat.{_≤_};
-ghost use Rattle.sheet.specs.Refusal.{first};
-ghost use Rattle.sheet.specs.Job.{taskLimit};
-ghost use Rattle.sheet.specs.Sheet.{platformOf, weightsOf, layoutConditions, jobOf, sheetRefusal, Reads};
-use crate::Job;
-use crate::Platform;
+ghost use Prim.Native.Nat.{_<_, _≤_, _^_};
+ghost use Rattle.refusals.specs.Refusals.{first};
+ghost use Rattle.job.specs.Job.{taskLimit};
+ghost use Rattle.sheet.specs.Layout.{layoutConditions};
+ghost use Rattle.sheet.specs.Reading.{sectionField, platformOf, weightsOf, jobOf, refusedReading, readingOf, Reads};
+use crate::JobReading;
+use crate::PLATFORM_KIND;
 use crate::Reading;
 use crate::Sheet;
+use crate::WEIGHTS_KIND;
+use crate::bytes::FIELD_LENGTH;
 use crate::bytes::field;
-use crate::layout::PLATFORM;
-use crate::layout::WEIGHTS;
 use crate::layout::layout_refusal;
-use crate::layout::section_of;
-use crate::layout::section_start;
 use crate::layout::task_count;
-use crate::values::job_refusal;
+use crate::lookup::find;
+use crate::lookup::lookup;
+use job::Job;
+use job::Platform;
+use job::TASK_LIMIT;
+use job::checks::job_refusal;
+
+// Field i of a section, from 0: they follow its kind byte.
+fn section_field(part: &[u8], i: usize) -> u32
+    requires { ⌜ i < 2 ^ 32 ⌝ }
+    ensures { λ r. ⌜ r ≡ sectionField (now (part .entry)) i ⌝ }
+{
+    field(part, 1 + FIELD_LENGTH * i)
+}
 
 fn platform_of(part: &[u8]) -> Platform
     ensures { λ r. ⌜ r ≡ platformOf (now (part .entry)) ⌝ }
 {
     Platform {
-        failstop: field(part, 1),
-        silent: field(part, 5),
-        cd: field(part, 9),
-        cm: field(part, 13),
-        v: field(part, 17),
-        rd: field(part, 21),
-        rm: field(part, 25),
+        failstop: section_field(part, 0),
+        silent: section_field(part, 1),
+        cd: section_field(part, 2),
+        cm: section_field(part, 3),
+        v: section_field(part, 4),
+        rd: section_field(part, 5),
+        rm: section_field(part, 6),
     }
 }
 
-fn weights_of(part: &[u8], n: usize) -> [u32; 64]
+fn weights_of(part: &[u8], n: usize) -> [u32; TASK_LIMIT]
     requires { ⌜ n ≤ taskLimit ⌝ }
     ensures { λ r. ⌜ r ≡ weightsOf (now (part .entry)) n ⌝ }
 {
-    let mut weights = [0u32; 64];
+    let mut weights = [0u32; TASK_LIMIT];
     let mut j: usize = 0;
     while j < n {
-        weights[j] = field(part, 1 + 4 * j);
+        weights[j] = section_field(part, j);
         j += 1;
     }
     weights
 }
 
 // The values of a sheet. Its layout has been found right, so that its sections are there.
-pub fn job_of(s: &[u8]) -> Job
+fn job_of(s: &[u8]) -> Job
     requires { ⌜ first (layoutConditions (now s)) ≡ 0 ⌝ }
     ensures { λ r. ⌜ r ≡ jobOf (now (s .entry)) ⌝ }
 {
     let n = task_count(s);
-    let platform = platform_of(section_of(s, PLATFORM));
-    let weights = weights_of(section_of(s, WEIGHTS), n);
+    let platform = platform_of(lookup(s, PLATFORM_KIND));
+    let weights = weights_of(lookup(s, WEIGHTS_KIND), n);
     Job {
         tasks: n,
         platform,
@@ -59,28 +71,45 @@ pub fn job_of(s: &[u8]) -> Job
     }
 }
 
-// The first of checks 1 to 8 that holds, or 0.
-pub fn sheet_refusal(s: &[u8]) -> u64
-    ensures { λ r. ⌜ r ≡ sheetRefusal (now (s .entry)) ⌝ }
+fn refused_reading(number: u64) -> JobReading
+    ensures { λ r. ⌜ r ≡ refusedReading number ⌝ }
+{
+    JobReading {
+        number,
+        job: Job::zero(),
+    }
+}
+
+// The values of a sheet with its weights, or the first of checks 1 to 8 that holds.
+pub fn read_job(s: &[u8]) -> JobReading
+    ensures { λ r. ⌜ r ≡ readingOf (now (s .entry)) ⌝ }
 {
     let number = layout_refusal(s);
     if number != 0 {
-        return number;
+        return refused_reading(number);
     }
-    job_refusal(job_of(s))
+    let job = job_of(s);
+    let number = job_refusal(job);
+    if number != 0 {
+        return refused_reading(number);
+    }
+    JobReading { number: 0, job }
 }
 
-// The values of a sheet, or the one number of its refusal.
+// The same as an enum, which a caller takes apart by let .. else.
 pub fn read(s: &[u8]) -> Reading
     ensures { λ r. ⌜ Reads (now (s .entry)) r ⌝ }
 {
-    let number = sheet_refusal(s);
-    if number != 0 {
-        return Reading::Refused(number);
+    let reading = read_job(s);
+    if reading.number != 0 {
+        return Reading::Refused(reading.number);
     }
+    let job = reading.job;
+    let platform = job.platform;
+    let found = find(s, WEIGHTS_KIND);
     Reading::Accepted(Sheet {
-        tasks: task_count(s),
-        platform: platform_of(section_of(s, PLATFORM)),
-        weights: section_start(s, WEIGHTS),
+        tasks: job.tasks,
+        platform,
+        weights: found.start,
     })
 }

@@ -17,3 +17,8 @@ up-ge p = omega arith
 pub up-lt : (p : ℕ) → up p * unit < p + unit
 unfolding up
 up-lt p = omega arith
+
+-- p is at most k units, so up(p) is at most k
+pub up-cap : {p : ℕ} (k : ℕ) → p ≤ k * unit → up p ≤ k
+unfolding up
+up-cap k h = omega arith

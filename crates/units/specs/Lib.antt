@@ -1,2 +1,3 @@
-pub mod Choice
 pub mod Unit
+pub mod Limits
+pub mod Working

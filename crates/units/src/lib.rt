@@ -1,4 +1,4 @@
-// Numbers in units of 2^-24: the unit, and rounding up to whole ticks.
+// Numbers in units of 2^-24, rounding up to whole ticks, and the longest time.
 ghost use mathlib.Core.Path.{_≡_};
 ghost use Prim.Native.Nat.{_+_, _≤_, _^_};
 ghost use Rattle.units.specs.Unit.{unit, up};
@@ -7,6 +7,9 @@ pub const UNIT: u64 = 16_777_216;
 
 // The exponent limit, in units.
 pub const EXPONENT_LIMIT: u64 = 67_108_864;
+
+// 2^34, one more than the longest time that is not too slow: such a time, and any above it, is none.
+pub const NONE: u64 = 1 << 34;
 
 // up(p) of document 01, for every p that leaves room for the rounding.
 pub fn rounded_up(p: u64) -> u64

@@ -1,4 +1,5 @@
--- `follow::follow_log` meets its contract. The loop's invariant: the buffer keeps its length and the pieces read are within the budget; the measure is what is left of the budget, 2^48. Assumes nothing.
+-- `follow::follow_log` meets its contract. The loop's invariant: the buffer keeps its length and the pieces read are within the budget; the measure is what is
+-- left of the budget, 2^48. Assumes nothing.
 use Prim.Native.Nat.{_-_, _^_, _≤_}
 use mathlib.Core.Path.{_≡_}
 use borrow.Author.Needs.{needs}

@@ -12,7 +12,8 @@ use native.Mathlib.Omega.{arith}
 use borrow.Author.Tests.{le-leb, lt-leb}
 use borrow.Author.Needs.{needs}
 use Rattle.units.specs.Unit.{unit, exponentLimit}
-use Rattle.growth.specs.Growth.{lastTerm, settledFrom, settled, ceilDiv, term, termSum, growthSum}
+use Rattle.growth.specs.Growth.{lastTerm, ceilDiv, term, termSum, growthSum}
+use Rattle.growth.specs.Working.Settled.{settledFrom, settled}
 use Rattle.growth.proofs.Terms.{term-le-sum, termSum-cap, growth-within, growth-above}
 use Rattle.growth.proofs.Settled.{settled-sum}
 use Rattle.growth.proofs.growth.Statement.{statement}
@@ -85,7 +86,9 @@ add-k : tie.Need-add-k Inv-loop μ-loop
 add-k c = omega arith
 
 mul-ceil-div : tie.Need-mul-ceil-div Inv-loop μ-loop
-mul-ceil-div c = omega (arith, product-cap _ _ _ _ _ (omega arith) (c .before .before .before .loop .inv))
+mul-ceil-div c =
+    let loop = c .before .before .before .loop in
+    omega (arith, product-cap _ _ _ _ _ (omega arith) (loop .inv))
 
 add-ceil-div : tie.Need-add-ceil-div Inv-loop μ-loop
 add-ceil-div c = omega arith
@@ -94,7 +97,10 @@ mul-ceil-div-2 : tie.Need-mul-ceil-div-2 Inv-loop μ-loop
 mul-ceil-div-2 c = omega arith
 
 ceil-div-requires : tie.Need-ceil-div-requires Inv-loop μ-loop
-ceil-div-requires c κs = omega (arith, product-cap _ _ _ _ _ (omega arith) (c .before .before .before .loop .inv))
+ceil-div-requires c κs =
+    let loop = c .before .before .before .loop in
+    let cap = product-cap _ _ _ _ _ (omega arith) (loop .inv) in
+    record { positive = omega arith; room = omega arith }
 
 add-sum : tie.Need-add-sum Inv-loop μ-loop
 add-sum c =
@@ -105,7 +111,9 @@ loop-less : tie.Need-loop-less Inv-loop μ-loop
 loop-less c = omega arith
 
 loop-again : tie.Need-loop-again Inv-loop μ-loop
-loop-again c = up-to-next _ _ _ _ _ _ (omega arith) (c .before .before .before .before .loop .inv) (c .ceil-div .ensures)
+loop-again c =
+    let loop = c .before .before .before .before .loop in
+    up-to-next _ _ _ _ _ _ (omega arith) (loop .inv) (c .ceil-div .ensures)
 
 returns-3 : tie.Need-returns-3 Inv-loop μ-loop
 unfolding growthSum

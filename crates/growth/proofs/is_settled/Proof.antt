@@ -1,7 +1,7 @@
 -- `growth::is_settled` meets its contract. Each return rewrites the test by the branch that led there. Assumes nothing.
 use native.Mathlib.Omega.{arith}
 use borrow.Author.Tests.{le-leb, lt-leb}
-use Rattle.growth.specs.Growth.{settledFrom, settled}
+use Rattle.growth.specs.Working.Settled.{settledFrom, settled}
 use Rattle.growth.proofs.is_settled.Statement.{statement}
 use Rattle.growth.proofs.is_settled.Tie as tie
 

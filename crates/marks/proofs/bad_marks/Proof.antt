@@ -1,5 +1,5 @@
 -- `marks::bad_marks` meets its contract. The loop's invariant: no mark passed is above 3. The measure is what is left of the marks. Assumes nothing.
-use Prim.Native.Nat.{_-_, _≤_}
+use Prim.Native.Nat.{_-_, _≤_, _<_}
 use mathlib.Core.Path.{_≡_, refl}
 use mathlib.Core.Bool.{false, or-true}
 use native.Mathlib.Omega.{arith}
@@ -7,14 +7,16 @@ use borrow.Author.Needs.{needs}
 use borrow.Author.Tests.{ne-eqb, eq-eqb, lt-ltb, le-ltb}
 use lib.Dec.{ltb}
 use lib.ListN.{getD}
-use Rattle.sheet.specs.Job.{some}
-use Rattle.sheet.proofs.Tables.{some-holds, some-more}
-use Rattle.marks.specs.Marks.{highestMark, badMarks}
+use Rattle.lists.specs.Lists.{some}
+use Rattle.lists.proofs.Lists.{some-holds, some-more}
+use Rattle.chain.specs.Time.{disk}
+use Rattle.marks.specs.Marks.{badMarks}
+use Rattle.marks.proofs.Stretches.{mark-at}
 use Rattle.marks.proofs.bad_marks.Statement.{statement}
 use Rattle.marks.proofs.bad_marks.Tie as tie
 
 abbrev Inv-loop : tie.InvT-loop
-Inv-loop n marks j₀ j = (j ≤ n) × (some j (λ i. ltb highestMark (getD marks i 0)) ≡ false)
+Inv-loop n marks j₀ j = (j ≤ n) × (some j (λ i. ltb disk (getD marks i 0)) ≡ false)
 
 abbrev μ-loop : tie.MeasureT-loop
 μ-loop n marks j₀ j = n - j
@@ -32,7 +34,10 @@ shared-slice-read-if2 c = omega arith
 
 returns-2 : tie.Need-returns-2 Inv-loop μ-loop
 unfolding badMarks
-returns-2 c = rw (some-holds (c .before .before .before .before .before .args .n) (λ i. ltb highestMark (getD (c .before .before .before .before .before .args .marks .now) i 0)) (c .before .before .before .loop .j) (omega arith) (lt-ltb _ _ (c .if2 .taken)), or-true)
+returns-2 c =
+    let args = c .before .before .before .before .before .args in
+    let loop = c .before .before .before .loop in
+    rw (some-holds (args .n) (λ i. ltb disk (getD (args .marks .now) i 0)) (loop .j) (omega arith) (lt-ltb _ _ (c .if2 .taken)), or-true)
 
 add-j : tie.Need-add-j Inv-loop μ-loop
 add-j c = omega arith
@@ -41,7 +46,9 @@ loop-less : tie.Need-loop-less Inv-loop μ-loop
 loop-less c = omega arith
 
 loop-again : tie.Need-loop-again Inv-loop μ-loop
-loop-again c = (omega arith, some-more (c .before .before .before .loop .j) _ (c .before .before .before .loop .inv .1) (le-ltb _ _ (c .if2 .left)))
+loop-again c =
+    let loop = c .before .before .before .loop in
+    (omega arith, some-more (loop .j) _ (loop .inv .1) (le-ltb _ _ (c .if2 .left)))
 
 sub-result : tie.Need-sub-result Inv-loop μ-loop
 sub-result c = omega arith
@@ -51,7 +58,13 @@ shared-slice-read-result c = omega arith
 
 returns-3 : tie.Need-returns-3 Inv-loop μ-loop
 unfolding badMarks
-returns-3 c = let e : c .before .before .loop .j ≡ c .before .before .before .before .args .n = omega arith in rw (eq-eqb _ _ (c .before .before .before .if1 .left), ← e, c .before .before .loop .inv .1)
+returns-3 c =
+    let loop = c .before .before .loop in
+    let args = c .before .before .before .before .args in
+    let if1 = c .before .before .before .if1 in
+    let pre : 0 < args .n = c .before .before .before .before .pre in
+    let e : loop .j ≡ args .n = omega arith in
+    rw (eq-eqb _ _ (if1 .left), ← e, loop .inv .1, e, mark-at (args .marks .now) (args .n) pre)
 
 pub bad-marks-spec : {M : Type 1} → statement M
 bad-marks-spec =

@@ -1,4 +1,5 @@
--- `marks::bad_stretches` meets its contract. The loop's invariant: every stretch that ended is allowed, `weight` is the weight since the last marked position. The measure is what is left of the tasks. Assumes nothing.
+-- `marks::bad_stretches` meets its contract. The loop's invariant: every stretch that ended is allowed, `weight` is the weight since the last marked position.
+-- The measure is what is left of the tasks. Assumes nothing.
 use mathlib.Core.Logic.{⊎-elim}
 use native.Mathlib.Nat.{pos-of-ne-zero}
 use borrow.Author.Tests.{not-true, not-false}
@@ -23,22 +24,39 @@ mul-weight : tie.Need-mul-weight Inv-loop μ-loop
 mul-weight c = omega arith
 
 array-read-weight : tie.Need-array-read-weight Inv-loop μ-loop
-array-read-weight c = omega (arith, c .before .before .before .before .before .pre .0 .few-tasks)
+array-read-weight c =
+    let pre = c .before .before .before .before .before .pre in
+    omega (arith, pre .sound .few-tasks)
 
 cast-weight : tie.Need-cast-weight Inv-loop μ-loop
 cast-weight c = search needs
 
 add-weight : tie.Need-add-weight Inv-loop μ-loop
-add-weight c = omega (arith, walked-range _ _ _ _ (c .before .loop .inv .1) (c .before .before .before .before .before .pre .0) (c .loop-test .taken))
+add-weight c =
+    let pre = c .before .before .before .before .before .pre in
+    omega (arith, walked-range _ _ _ _ (c .before .loop .inv .1) (pre .sound) (c .loop-test .taken))
 
 shared-slice-read-if1 : tie.Need-shared-slice-read-if1 Inv-loop μ-loop
-shared-slice-read-if1 c = omega (arith, marks-length _ _ (c .before .before .before .before .before .before .pre .1))
+shared-slice-read-if1 c =
+    let pre = c .before .before .before .before .before .before .pre in
+    omega (arith, marks-length _ _ (pre .marks))
 
 is-allowed-requires : tie.Need-is-allowed-requires Inv-loop μ-loop
-is-allowed-requires c κs = walked-range _ _ _ _ (c .before .before .before .loop .inv .1) (c .before .before .before .before .before .before .before .pre .0) (c .before .before .loop-test .taken)
+is-allowed-requires c κs =
+    let pre = c .before .before .before .before .before .before .before .pre in
+    let loop = c .before .before .before .loop in
+    let loop-test = c .before .before .loop-test in
+    walked-range _ _ _ _ (loop .inv .1) (pre .sound) (loop-test .taken)
 
 returns : tie.Need-returns Inv-loop μ-loop
-returns c = sym (walked-bad _ _ _ _ (c .before .before .before .before .before .loop .inv .1) (c .before .before .before .before .loop-test .taken) (pos-of-ne-zero (c .before .before .if1 .taken)) (sym (c .before .is-allowed .ensures) ∙ not-true (c .before .is-allowed .result) (c .if2 .taken)))
+returns c =
+    let loop = c .before .before .before .before .before .loop in
+    let loop-test = c .before .before .before .before .loop-test in
+    let if1 = c .before .before .if1 in
+    let is-allowed = c .before .is-allowed in
+    sym
+    (walked-bad _ _ _ _ (loop .inv .1) (loop-test .taken) (pos-of-ne-zero (if1 .taken))
+    (sym (is-allowed .ensures) ∙ not-true (is-allowed .result) (c .if2 .taken)))
 
 add-j : tie.Need-add-j Inv-loop μ-loop
 add-j c = omega arith
@@ -47,7 +65,13 @@ loop-less : tie.Need-loop-less Inv-loop μ-loop
 loop-less c = omega arith
 
 loop-again : tie.Need-loop-again Inv-loop μ-loop
-loop-again c = ⊎-elim (λ w. (omega arith, rw (w .3) (walked-marked _ _ _ _ (c .before .before .before .loop .inv .1) (pos-of-ne-zero (w .0 .taken)) (sym (w .1 .ensures) ∙ not-false (w .1 .result) (w .2 .left))))) (λ w. (omega arith, rw (w .1) (walked-plain _ _ _ _ (c .before .before .before .loop .inv .1) (w .0 .left)))) (c .if1 .came)
+loop-again c =
+    let loop = c .before .before .before .loop in
+    ⊎-elim
+    (λ w. (
+      omega arith,
+      rw (w .3) (walked-marked _ _ _ _ (loop .inv .1) (pos-of-ne-zero (w .0 .taken)) (sym (w .1 .ensures) ∙ not-false (w .1 .result) (w .2 .left))),
+    )) (λ w. (omega arith, rw (w .1) (walked-plain _ _ _ _ (loop .inv .1) (w .0 .left)))) (c .if1 .came)
 
 returns-2 : tie.Need-returns-2 Inv-loop μ-loop
 returns-2 c = sym (walked-all _ _ _ _ (c .before .loop .inv .1) (omega arith))

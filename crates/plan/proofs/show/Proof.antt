@@ -1,8 +1,8 @@
--- `plan::show` meets its contract. A plan's task count is at most 64, so that the part of the text is there. Assumes nothing.
+-- `plan::show` meets its contract. A plan's task count is in range, so that the part of the text is there. Assumes nothing.
 use native.Mathlib.Omega.{arith}
 use mathlib.Core.Path.{sym}
 use lib.Seq.{length-take-le}
-use Rattle.planner.proofs.Promises.{plan-tasks}
+use Rattle.planning.proofs.Theorems.{plan-tasks}
 use borrow.Author.Needs.{needs}
 use Rattle.plan.proofs.show.Statement.{statement}
 use Rattle.plan.proofs.show.Tie as tie
@@ -38,10 +38,17 @@ digits-requires : tie.Need-digits-requires
 digits-requires c κs = search needs
 
 array-share-prefix-text : tie.Need-array-share-prefix-text
-array-share-prefix-text c = omega (arith, c .digits .ensures .long, c .before .task-count .ensures .0, plan-tasks _ _ _ _ (c .before .before .before .before .before .before .before .before .before .plan .ensures) (c .before .before .before .before .before .before .if1 .left))
+array-share-prefix-text c =
+    let plan = c .before .before .before .before .before .before .before .before .before .plan in
+    let if1 = c .before .before .before .before .before .before .if1 in
+    omega (arith, c .digits .ensures .long, c .before .task-count .ensures .0, plan-tasks _ _ _ _ (plan .ensures) (if1 .left))
 
 slice-aggregate-line : tie.Need-slice-aggregate-line
-slice-aggregate-line c = sym (length-take-le _ _ (omega (arith, c .before .digits .ensures .long, c .before .before .task-count .ensures .0, plan-tasks _ _ _ _ (c .before .before .before .before .before .before .before .before .before .before .plan .ensures) (c .before .before .before .before .before .before .before .if1 .left))))
+slice-aggregate-line c =
+    let plan = c .before .before .before .before .before .before .before .before .before .before .plan in
+    let if1 = c .before .before .before .before .before .before .before .if1 in
+    let task-count = c .before .before .task-count in
+    sym (length-take-le _ _ (omega (arith, c .before .digits .ensures .long, task-count .ensures .0, plan-tasks _ _ _ _ (plan .ensures) (if1 .left))))
 
 line-requires : tie.Need-line-requires
 line-requires c κs = search needs

@@ -1,64 +1,119 @@
--- `pricing::setting_time` meets its contract. The loop's invariant: what is carried to the next position is the definition's, unless the limit was passed, and then D(n) passes it too. The measure is what is left of the tasks. Assumes nothing.
-use Rattle.marks.proofs.Stretches.{marks-right, marks-length, marks-range, marks-end}
+-- `pricing::setting_time` meets its contract. The loop's invariant: what is carried to the next position is the definition's, unless the limit was passed, and
+-- then D(n) passes it too.
+-- The measure is what is left of the tasks. Assumes nothing.
 use Prim.Native.Nat.{_+_, _-_, _≤_, _<_}
 use mathlib.Core.Path.{_≡_, sym}
 use native.Mathlib.Omega.{arith}
-use borrow.Author.Needs.{needs}
-use Rattle.pricing.specs.Price.{none}
-use Rattle.pricing.proofs.Carries.{Carries, carries-start, carries-past, carried-allowed, carried-slow, carried-time, weight-range}
+use Rattle.units.specs.Limits.{none}
+use Rattle.marks.proofs.Stretches.{marks-passed, marks-length, marks-range, marks-end}
+use Rattle.pricing.proofs.Progresses.{Progresses, progress-start, progress-past, progress-allowed, progress-slow, progress-time, weight-range}
 use Rattle.pricing.proofs.setting_time.Statement.{statement}
 use Rattle.pricing.proofs.setting_time.Tie as tie
+use borrow.Author.Needs.{needs}
 
 abbrev Inv-loop : tie.InvT-loop
-Inv-loop marks n weights platform s₀ j₀ s j = (j ≤ n) × Carries (record { tasks = n; platform = platform; weights = weights }) marks j s × (s .dt + s .mt + s .q < none)
+Inv-loop marks job n weights s₀ j₀ s j = (j ≤ job .tasks) × Progresses job marks j s × (s .dt + s .mt + s .q < none)
 
 abbrev μ-loop : tie.MeasureT-loop
-μ-loop marks n weights platform s₀ j₀ s j = n - j
+μ-loop marks job n weights s₀ j₀ s j = job .tasks - j
 
 loop-holds : tie.Need-loop-holds Inv-loop μ-loop
-loop-holds c = (search needs, carries-start _ _, search needs)
+loop-holds c = (search needs, progress-start _ _, search needs)
 
 mul-s : tie.Need-mul-s Inv-loop μ-loop
 mul-s c = omega arith
 
 array-read-s : tie.Need-array-read-s Inv-loop μ-loop
-array-read-s c = omega (arith, c .before .before .before .before .before .pre .0 .few-tasks)
+array-read-s c =
+    let pre = c .before .before .before .before .pre in
+    omega (arith, pre .sound .few-tasks)
 
 cast-s : tie.Need-cast-s Inv-loop μ-loop
 cast-s c = search needs
 
 add-s : tie.Need-add-s Inv-loop μ-loop
-add-s c = omega (arith, weight-range _ _ _ _ (c .before .before .loop .inv .1) (c .before .before .before .before .before .before .pre .0) (c .before .loop-test .taken))
+add-s c =
+    let loop = c .before .before .loop in
+    let pre = c .before .before .before .before .before .pre in
+    let loop-test = c .before .loop-test in
+    omega (arith, weight-range _ _ _ _ (loop .inv .1) (pre .sound) (loop-test .taken))
 
-add-carry-past : tie.Need-add-carry-past Inv-loop μ-loop
-add-carry-past c = omega (arith, c .before .before .before .before .before .before .pre .0 .few-tasks)
+add-past-mark : tie.Need-add-past-mark Inv-loop μ-loop
+add-past-mark c =
+    let pre = c .before .before .before .before .before .pre in
+    omega (arith, pre .sound .few-tasks)
 
-shared-slice-read-carry-past : tie.Need-shared-slice-read-carry-past Inv-loop μ-loop
-shared-slice-read-carry-past c = omega (arith, marks-length _ _ (marks-right (c .before .before .before .before .before .before .before .args .job) (c .before .before .before .before .before .before .before .args .marks .now) (c .before .before .before .before .before .before .before .pre .1) .0))
+shared-slice-read-past-mark : tie.Need-shared-slice-read-past-mark Inv-loop μ-loop
+shared-slice-read-past-mark c =
+    let pre = c .before .before .before .before .before .before .pre in
+    let passed = marks-passed _ _ (pre .marks) in omega (arith, marks-length _ _ (passed .marks))
 
-carry-past-requires : tie.Need-carry-past-requires Inv-loop μ-loop
-carry-past-requires c κs = (record { cd = c .before .before .before .before .before .before .before .pre .0 .cd; cm = c .before .before .before .before .before .before .before .pre .0 .cm; v = c .before .before .before .before .before .before .before .pre .0 .v; rd = c .before .before .before .before .before .before .before .pre .0 .rd; rm = c .before .before .before .before .before .before .before .pre .0 .rm }, (record { weight = weight-range _ _ _ _ (c .before .before .before .loop .inv .1) (c .before .before .before .before .before .before .before .pre .0) (c .before .before .loop-test .taken); time = c .before .before .before .loop .inv .2 }, (carried-allowed _ _ _ _ (c .before .before .before .loop .inv .1) (marks-right (c .before .before .before .before .before .before .before .args .job) (c .before .before .before .before .before .before .before .args .marks .now) (c .before .before .before .before .before .before .before .pre .1) .1) (c .before .before .loop-test .taken), marks-range _ _ (marks-right (c .before .before .before .before .before .before .before .args .job) (c .before .before .before .before .before .before .before .args .marks .now) (c .before .before .before .before .before .before .before .pre .1) .0) _ (c .before .before .loop-test .taken))))
+past-mark-requires : tie.Need-past-mark-requires Inv-loop μ-loop
+past-mark-requires c κs =
+    let pre = c .before .before .before .before .before .before .pre in
+    let loop = c .before .before .before .loop in
+    let loop-test = c .before .before .loop-test in
+    let passed = marks-passed _ _ (pre .marks) in
+    record {
+      costs = pre .sound .costs;
+      progress = record {
+        weight = weight-range _ _ _ _ (loop .inv .1) (pre .sound) (loop-test .taken);
+        time = loop .inv .2;
+      };
+      allowed = progress-allowed _ _ _ _ (loop .inv .1) (passed .stretches) (loop-test .taken);
+      mark-range = marks-range _ _ (passed .marks) _ (loop-test .taken);
+    }
 
 add-if1 : tie.Need-add-if1 Inv-loop μ-loop
-add-if1 c = omega (arith, c .before .carry-past .ensures .1)
+add-if1 c =
+    let past-mark = c .before .past-mark in
+    omega (arith, past-mark .ensures .cap)
 
 add-if1-2 : tie.Need-add-if1-2 Inv-loop μ-loop
-add-if1-2 c = omega (arith, c .before .before .carry-past .ensures .1)
+add-if1-2 c =
+    let past-mark = c .before .before .past-mark in
+    omega (arith, past-mark .ensures .cap)
 
 returns : tie.Need-returns Inv-loop μ-loop
-returns c = sym (carried-slow _ _ (marks-end _ _ (marks-right (c .before .before .before .before .before .before .before .before .before .before .before .args .job) (c .before .before .before .before .before .before .before .before .before .before .before .args .marks .now) (c .before .before .before .before .before .before .before .before .before .before .before .pre .1) .0)) _ _ (carries-past _ _ _ _ (c .before .before .before .before .before .before .before .loop .inv .1) (marks-range _ _ (marks-right (c .before .before .before .before .before .before .before .before .before .before .before .args .job) (c .before .before .before .before .before .before .before .before .before .before .before .args .marks .now) (c .before .before .before .before .before .before .before .before .before .before .before .pre .1) .0) _ (c .before .before .before .before .before .before .loop-test .taken))) (omega arith) (rw (c .before .before .before .carry-past .ensures .0) at (c .if1 .taken)))
+returns c =
+    let pre = c .before .before .before .before .before .before .before .before .before .before .pre in
+    let loop = c .before .before .before .before .before .before .before .loop in
+    let loop-test = c .before .before .before .before .before .before .loop-test in
+    let past-mark = c .before .before .before .past-mark in
+    let if1 = c .if1 in
+    let passed = marks-passed _ _ (pre .marks) in
+    let next = progress-past _ _ _ _ (loop .inv .1) (marks-range _ _ (passed .marks) _ (loop-test .taken)) in
+    sym (progress-slow _ _ (marks-end _ _ (passed .marks)) _ _ next (omega arith) (rw (past-mark .ensures .value) at (if1 .taken)))
 
 add-j : tie.Need-add-j Inv-loop μ-loop
-add-j c = omega (arith, c .before .before .before .before .before .before .before .before .before .before .before .pre .0 .few-tasks)
+add-j c =
+    let pre = c .before .before .before .before .before .before .before .before .before .before .pre in
+    omega (arith, pre .sound .few-tasks)
 
 loop-less : tie.Need-loop-less Inv-loop μ-loop
 loop-less c = omega arith
 
 loop-again : tie.Need-loop-again Inv-loop μ-loop
-loop-again c = (omega arith, rw (c .before .before .before .carry-past .ensures .0) (carries-past _ _ _ _ (c .before .before .before .before .before .before .before .loop .inv .1) (marks-range _ _ (marks-right (c .before .before .before .before .before .before .before .before .before .before .before .args .job) (c .before .before .before .before .before .before .before .before .before .before .before .args .marks .now) (c .before .before .before .before .before .before .before .before .before .before .before .pre .1) .0) _ (c .before .before .before .before .before .before .loop-test .taken))), c .if1 .left)
+loop-again c =
+    let pre = c .before .before .before .before .before .before .before .before .before .before .pre in
+    let past-mark = c .before .before .before .past-mark in
+    let loop = c .before .before .before .before .before .before .before .loop in
+    let loop-test = c .before .before .before .before .before .before .loop-test in
+    let if1 = c .if1 in
+    let passed = marks-passed _ _ (pre .marks) in (
+      omega arith,
+      rw (past-mark .ensures .value) (progress-past _ _ _ _ (loop .inv .1) (marks-range _ _ (passed .marks) _ (loop-test .taken))),
+      if1 .left,
+    )
 
 returns-2 : tie.Need-returns-2 Inv-loop μ-loop
-returns-2 c = let e : c .before .loop .j ≡ c .before .before .before .before .before .args .job .tasks = omega arith in carried-time _ _ (marks-end _ _ (marks-right (c .before .before .before .before .before .args .job) (c .before .before .before .before .before .args .marks .now) (c .before .before .before .before .before .pre .1) .0)) _ (rw e at (c .before .loop .inv .1)) (c .before .loop .inv .2)
+returns-2 c =
+    let pre = c .before .before .before .before .pre in
+    let loop = c .before .loop in
+    let args = c .before .before .before .before .args in
+    let passed = marks-passed _ _ (pre .marks) in
+    let e : loop .j ≡ args .job .tasks = omega arith in
+    progress-time _ _ (marks-end _ _ (passed .marks)) _ (rw e at (loop .inv .1)) (loop .inv .2)
 
 pub setting-time-spec : {M : Type 1} → statement M
 setting-time-spec =
@@ -71,9 +126,9 @@ setting-time-spec =
     array-read-s
     cast-s
     add-s
-    add-carry-past
-    shared-slice-read-carry-past
-    carry-past-requires
+    add-past-mark
+    shared-slice-read-past-mark
+    past-mark-requires
     add-if1
     add-if1-2
     returns

@@ -18,11 +18,11 @@ mul-time c = search needs
 slice-write-time : tie.Need-slice-write-time
 slice-write-time c = search needs
 
-mul-before : tie.Need-mul-before
-mul-before c = search needs
+mul-backs : tie.Need-mul-backs
+mul-backs c = search needs
 
-slice-write-before : tie.Need-slice-write-before
-slice-write-before c = search needs
+slice-write-backs : tie.Need-slice-write-backs
+slice-write-backs c = search needs
 
 same-length : tie.Need-same-length
 same-length c = search needs
@@ -31,10 +31,17 @@ same-length-2 : tie.Need-same-length-2
 same-length-2 c = search needs
 
 returns : tie.Need-returns
-returns c = (rw (lt-ltb _ _ (c .if1 .taken)), rw (lt-ltb _ _ (c .if1 .taken)))
+returns c =
+    let if1 = c .if1 in
+    record { times = rw (lt-ltb _ _ (if1 .taken)); froms = rw (lt-ltb _ _ (if1 .taken)) }
 
 returns-2 : tie.Need-returns-2
-returns-2 c = (rw (le-ltb _ _ (c .if1 .left)) (sym (set-getD _ _ 0)), rw (le-ltb _ _ (c .if1 .left)) (sym (set-getD _ _ 0)))
+returns-2 c =
+    let if1 = c .if1 in
+    record {
+      times = rw (le-ltb _ _ (if1 .left)) (sym (set-getD _ _ 0));
+      froms = rw (le-ltb _ _ (if1 .left)) (sym (set-getD _ _ 0));
+    }
 
 pub offer-spec : {M : Type 1} → statement M
 offer-spec =
@@ -44,8 +51,8 @@ offer-spec =
     slice-read-if1
     mul-time
     slice-write-time
-    mul-before
-    slice-write-before
+    mul-backs
+    slice-write-backs
     same-length
     same-length-2
     returns

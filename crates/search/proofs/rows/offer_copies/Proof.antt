@@ -1,63 +1,121 @@
--- `search::rows::offer_copies` meets its contract. The loop's invariant: the entries after u and before v have had their offer, and the others are untouched. The measure is what is left of the positions. Assumes nothing.
+-- `search::rows::offer_copies` meets its contract. The loop's invariant: the entries after u and before v have had their offer, and the others are untouched.
+-- The measure is what is left of the positions. Assumes nothing.
 use Prim.Native.Nat.{_+_, _-_, _≤_, _<_}
 use mathlib.Core.Path.{_≡_}
 use native.Mathlib.Omega.{arith}
 use lib.ListN.{getD}
-use Rattle.search.specs.Rows.{Offered}
+use Rattle.search.specs.Working.Rows.{Offered}
 use Rattle.search.proofs.Turns.{offered-none, offered-more}
 use Rattle.search.proofs.rows.offer_copies.Statement.{statement}
 use Rattle.search.proofs.rows.offer_copies.Tie as tie
+use borrow.Author.Needs.{needs}
 
 abbrev Inv-loop : tie.InvT-loop
-Inv-loop time₀ before₀ u part copy top t v₀ time before v = (u < v) × (v ≤ top + 1) × Offered time₀ before₀ u v (λ w. t + getD part w 0 + copy) time before
+Inv-loop time₀ backs₀ u part copies top t v₀ time backs v = (u < v) × (v ≤ top + 1) × Offered time₀ backs₀ u v (λ w. t + getD part w 0 + getD copies w 0) time backs
 
 abbrev μ-loop : tie.MeasureT-loop
-μ-loop time₀ before₀ u part copy top t v₀ time before v = (top + 1) - v
+μ-loop time₀ backs₀ u part copies top t v₀ time backs v = (top + 1) - v
 
 mul-t : tie.Need-mul-t Inv-loop μ-loop
-mul-t c = omega arith
+mul-t c =
+    let pre = c .before .before .before .before .pre in
+    omega (arith, pre .start, pre .few)
 
 slice-read-t : tie.Need-slice-read-t Inv-loop μ-loop
-slice-read-t c = omega arith
+slice-read-t c =
+    let pre = c .before .before .before .before .before .pre in
+    omega (arith, pre .rows .times-long, pre .start, pre .few)
 
 add-v : tie.Need-add-v Inv-loop μ-loop
-add-v c = omega arith
+add-v c =
+    let pre = c .before .before .before .before .before .pre in
+    omega (arith, pre .start, pre .few)
 
 loop-holds : tie.Need-loop-holds Inv-loop μ-loop
-loop-holds c = (omega arith, omega arith, offered-none _ _ _ _)
+loop-holds c =
+    let pre = c .before .before .before .before .before .pre in
+    (omega arith, omega (arith, pre .start), offered-none _ _ _ _)
 
 mul-offer : tie.Need-mul-offer Inv-loop μ-loop
-mul-offer c = omega arith
+mul-offer c =
+    let pre = c .before .before .before .before .before .before .before .before .before .pre in
+    omega (arith, pre .few)
 
 shared-slice-read-offer : tie.Need-shared-slice-read-offer Inv-loop μ-loop
-shared-slice-read-offer c = omega arith
+shared-slice-read-offer c =
+    let pre = c .before .before .before .before .before .before .before .before .before .before .pre in
+    omega (arith, pre .part-long, pre .few)
 
 add-offer : tie.Need-add-offer Inv-loop μ-loop
-add-offer c = omega (arith, c .before .before .before .before .before .before .before .before .before .pre .1 .1 .0, c .before .before .before .before .before .before .before .before .before .pre .1 .1 .1 (c .before .before .before .before .loop .v) (omega arith))
+add-offer c =
+    let pre = c .before .before .before .before .before .before .before .before .before .before .pre in
+    let loop = c .before .before .before .before .loop in
+    omega (arith, pre .reached, pre .parts (loop .v) (omega arith))
+
+mul-wide : tie.Need-mul-wide Inv-loop μ-loop
+mul-wide c =
+    let pre = c .before .before .before .before .before .before .before .before .before .before .pre in
+    omega (arith, pre .few)
+
+shared-slice-read-wide : tie.Need-shared-slice-read-wide Inv-loop μ-loop
+shared-slice-read-wide c =
+    let pre = c .before .before .before .before .before .before .before .before .before .before .before .pre in
+    omega (arith, pre .copies-long, pre .few)
+
+wide-requires : tie.Need-wide-requires Inv-loop μ-loop
+wide-requires c κs = search needs
 
 add-offer-2 : tie.Need-add-offer-2 Inv-loop μ-loop
-add-offer-2 c = omega (arith, c .before .before .before .before .before .before .before .before .before .pre .1 .1 .0, c .before .before .before .before .before .before .before .before .before .pre .1 .0 .2, c .before .before .before .before .before .before .before .before .before .pre .1 .1 .1 (c .before .before .before .before .loop .v) (omega arith))
+add-offer-2 c =
+    let pre = c .before .before .before .before .before .before .before .before .before .before .before .before .pre in
+    let loop = c .before .before .before .before .before .before .loop in
+    let wide = c .wide in
+    omega (arith, pre .reached, pre .parts (loop .v) (omega arith), wide .ensures .1)
 
 offer-requires : tie.Need-offer-requires Inv-loop μ-loop
-offer-requires c κs = (omega (arith, c .before .before .before .before .loop .inv .2 .times-long), omega (arith, c .before .before .before .before .loop .inv .2 .backs-long))
+offer-requires c κs =
+    let loop = c .before .before .before .before .before .before .loop in
+    let pre = c .before .before .before .before .before .before .before .before .before .before .before .before .pre in
+    record {
+      time-room = omega (arith, loop .inv .2 .times-long, pre .rows .times-long, pre .few);
+      back-room = omega (arith, loop .inv .2 .backs-long, pre .rows .backs-long, pre .few);
+    }
 
 add-v-2 : tie.Need-add-v-2 Inv-loop μ-loop
-add-v-2 c = omega arith
+add-v-2 c =
+    let pre = c .before .before .before .before .before .before .before .before .before .before .before .before .before .before .before .before .before .pre in
+    omega (arith, pre .few)
 
 loop-less : tie.Need-loop-less Inv-loop μ-loop
 loop-less c = omega arith
 
 loop-again : tie.Need-loop-again Inv-loop μ-loop
-loop-again c = (omega arith, omega arith, rw (c .before .before .before .before .offer .ensures .0, c .before .before .before .before .offer .ensures .1) (offered-more _ _ _ _ _ _ _ (c .before .before .before .before .before .before .before .before .before .loop .inv .2) (c .before .before .before .before .before .before .before .before .before .loop .inv .0) (omega (arith, c .before .before .before .before .before .before .before .before .before .before .before .before .before .before .pre .0 .0)) (omega (arith, c .before .before .before .before .before .before .before .before .before .before .before .before .before .before .pre .0 .1))))
+loop-again c =
+    let loop = c .before .before .before .before .before .before .before .before .before .before .before .loop in
+    let pre = c .before .before .before .before .before .before .before .before .before .before .before .before .before .before .before .before .before .pre in
+    let wide = c .before .before .before .before .before .wide in
+    let offer = c .before .before .before .before .offer in (
+      omega arith,
+      omega arith,
+      offered-more _ _ _ _ _ _ _ (loop .inv .2) (loop .inv .0)
+          (omega (arith, pre .rows .times-long, pre .few)) (omega (arith, pre .rows .backs-long, pre .few)) _ (rw (wide .ensures .0)) _ _ (offer .ensures),
+    )
 
 same-length : tie.Need-same-length Inv-loop μ-loop
-same-length c = c .before .loop .inv .2 .times-long
+same-length c =
+    let loop = c .before .loop in
+    loop .inv .2 .times-long
 
 same-length-2 : tie.Need-same-length-2 Inv-loop μ-loop
-same-length-2 c = c .before .loop .inv .2 .backs-long
+same-length-2 c =
+    let loop = c .before .loop in
+    loop .inv .2 .backs-long
 
 returns : tie.Need-returns Inv-loop μ-loop
-returns c = let e : c .before .loop .v ≡ c .before .before .before .before .before .before .args .top + 1 = omega arith in rw e at (c .before .loop .inv .2)
+returns c =
+    let loop = c .before .loop in
+    let args = c .before .before .before .before .before .before .before .args in
+    let e : loop .v ≡ args .top + 1 = omega arith in rw e at (loop .inv .2)
 
 pub offer-copies-spec : {M : Type 1} → statement M
 offer-copies-spec =
@@ -72,6 +130,9 @@ offer-copies-spec =
     mul-offer
     shared-slice-read-offer
     add-offer
+    mul-wide
+    shared-slice-read-wide
+    wide-requires
     add-offer-2
     offer-requires
     add-v-2

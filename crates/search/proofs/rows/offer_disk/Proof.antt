@@ -1,7 +1,11 @@
--- `search::rows::offer_disk` meets its contract. The row of memory copies from d is the theory's least M, and each v is offered that with the copy. Assumes nothing.
+-- `search::rows::offer_disk` meets its contract. The row of memory copies from d is the theory's least M, and each v is offered that with the copy. Assumes
+-- nothing.
+use mathlib.Core.Path.{refl}
 use native.Mathlib.Omega.{arith}
-use Rattle.setting.proofs.Search.{reach-cap}
-use Rattle.search.proofs.Levels.{offered-agree, disk-arrival}
+use Rattle.chain.proofs.Search.{reach-cap}
+use Rattle.search.specs.Working.Table.{cdStart}
+use Rattle.search.proofs.Tables.{column-part, length-column}
+use Rattle.search.proofs.Levels.{disk-arrival, offered-agree}
 use borrow.Author.Needs.{needs}
 use Rattle.search.proofs.rows.offer_disk.Statement.{statement}
 use Rattle.search.proofs.rows.offer_disk.Tie as tie
@@ -13,16 +17,37 @@ slice-aggregate-memory-row-2 : tie.Need-slice-aggregate-memory-row-2
 slice-aggregate-memory-row-2 c = search needs
 
 memory-row-requires : tie.Need-memory-row-requires
-memory-row-requires c κs = search needs
+memory-row-requires c κs =
+    let pre = c .before .before .before .before .before .pre in
+    record {
+      fresh = record { times = refl; positions-before = refl };
+      bounded = pre .bounded;
+      start = pre .start;
+    }
 
 slice-aggregate-offer-copies : tie.Need-slice-aggregate-offer-copies
 slice-aggregate-offer-copies c = search needs
 
-cast-offer-copies : tie.Need-cast-offer-copies
-cast-offer-copies c = search needs
+disk-copies-requires : tie.Need-disk-copies-requires
+disk-copies-requires c κs = search needs
 
 offer-copies-requires : tie.Need-offer-copies-requires
-offer-copies-requires c κs = ((c .before .before .before .before .before .before .before .before .before .before .before .before .before .pre .0 .0, c .before .before .before .before .before .before .before .before .before .before .before .before .before .pre .0 .1, c .before .before .before .before .before .before .memory-row .ensures .times-long), ((c .before .before .before .before .before .before .before .before .before .before .before .before .before .pre .1 .0, omega (arith, c .before .before .before .before .before .before .before .before .before .before .before .before .before .pre .0 .3 .few-tasks), c .before .before .before .before .before .before .before .before .before .before .before .before .before .pre .0 .3 .cd), (omega (arith, c .before .before .before .before .before .before .before .before .before .before .before .before .before .pre .1 .1), λ w h. rw (c .before .before .before .before .before .before .memory-row .ensures .times w h) (reach-cap _ _ _ w))))
+offer-copies-requires c κs =
+    let pre = c .before .before .before .before .before .before .before .before .before .before .before .before .pre in
+    let memory-row = c .before .before .before .before .before .before .memory-row in
+    let disk-copies = c .disk-copies in
+    let args = c .before .before .before .before .before .before .before .before .before .before .before .before .args in
+    record {
+      rows = pre .rows;
+      part-long = memory-row .ensures .times-long;
+      copies-long = rw (disk-copies .ensures) (length-column cdStart (args .t .now) (pre .bounded .long) (omega arith));
+      start = pre .start;
+      few = pre .bounded .few;
+      reached = omega (arith, pre .reached);
+      parts = λ w h. rw (memory-row .ensures .times w h) (reach-cap _ _ _ w);
+      costs = λ w h.
+          rw (disk-copies .ensures, column-part cdStart (args .t .now) w (omega (arith, pre .bounded .few))) (pre .bounded .cd w h);
+    }
 
 same-length : tie.Need-same-length
 same-length c = search needs
@@ -31,7 +56,13 @@ same-length-2 : tie.Need-same-length-2
 same-length-2 c = search needs
 
 returns : tie.Need-returns
-returns c = offered-agree _ _ _ _ _ _ _ _ (λ w a b. disk-arrival (c .before .before .before .before .before .before .before .before .before .before .before .before .before .before .before .before .before .before .args .job) (c .before .before .before .before .before .before .before .before .before .before .before .before .before .before .before .before .before .before .args .d) (c .before .before .before .before .before .before .before .before .before .before .before .before .before .before .before .before .before .before .args .job .tasks) _ _ _ (c .before .before .before .before .before .before .before .before .before .before .before .memory-row .ensures) w (omega arith)) (c .before .before .before .before .offer-copies .ensures)
+returns c =
+    let disk-copies = c .before .before .before .before .before .disk-copies in
+    let pre = c .before .before .before .before .before .before .before .before .before .before .before .before .before .before .before .before .before .pre in
+    let memory-row = c .before .before .before .before .before .before .before .before .before .before .before .memory-row in
+    let offer-copies = c .before .before .before .before .offer-copies in
+    offered-agree _ _ _ _ _ _ _ _
+    (λ w a b. rw (disk-copies .ensures) (disk-arrival _ _ _ (pre .bounded .few) _ _ _ (memory-row .ensures) w (omega arith))) (offer-copies .ensures)
 
 pub offer-disk-spec : {M : Type 1} → statement M
 offer-disk-spec =
@@ -41,7 +72,7 @@ offer-disk-spec =
     slice-aggregate-memory-row-2
     memory-row-requires
     slice-aggregate-offer-copies
-    cast-offer-copies
+    disk-copies-requires
     offer-copies-requires
     same-length
     same-length-2

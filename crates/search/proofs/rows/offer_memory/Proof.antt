@@ -1,26 +1,32 @@
--- `search::rows::offer_memory` meets its contract. The row of verifications from m is the theory's least Q, and each v is offered that with the copy. Assumes nothing.
-use Rattle.search.proofs.Levels.{memory-arrival}
+-- `search::rows::offer_memory` meets its contract. The row of verifications from m is the theory's least Q, and each v is offered that with the copy. Assumes
+-- nothing.
 use mathlib.Core.Path.{refl}
 use native.Mathlib.Omega.{arith}
-use Rattle.setting.proofs.Search.{reach-cap}
-use Rattle.pricing.proofs.Steps.{disk-range, memory-range}
-use Rattle.search.proofs.Entries.{usable-less}
-use Rattle.search.proofs.Levels.{table-usable, table-row, offered-agree}
+use Rattle.chain.proofs.Search.{reach-cap}
+use Rattle.search.specs.Working.Table.{cmStart}
+use Rattle.search.proofs.Tables.{column-part, length-column}
+use Rattle.search.proofs.Levels.{table-row, memory-arrival, offered-agree}
 use borrow.Author.Needs.{needs}
 use Rattle.search.proofs.rows.offer_memory.Statement.{statement}
 use Rattle.search.proofs.rows.offer_memory.Tie as tie
 
-mul-mt : tie.Need-mul-mt
-mul-mt c = search needs
+mul-recoveries : tie.Need-mul-recoveries
+mul-recoveries c = search needs
 
-slice-read-mt : tie.Need-slice-read-mt
-slice-read-mt c = search needs
+slice-read-recoveries : tie.Need-slice-read-recoveries
+slice-read-recoveries c = search needs
 
-from-disk-requires : tie.Need-from-disk-requires
-from-disk-requires c κs = search needs
-
-add-disk : tie.Need-add-disk
-add-disk c = omega (arith, c .from-disk .ensures, disk-range (c .before .before .before .before .before .before .args .job .platform) (c .before .before .before .before .before .before .args .d), c .before .before .before .before .before .before .pre .0 .3 .rd, c .before .before .before .before .before .before .pre .1 .2)
+recoveries-requires : tie.Need-recoveries-requires
+recoveries-requires c κs =
+    let pre = c .before .before .before .before .pre in
+    record {
+      long = pre .bounded .long;
+      d-few = omega (arith, pre .disk, pre .start, pre .bounded .few);
+      m-few = omega (arith, pre .start, pre .bounded .few);
+      rd = pre .bounded .rd _ (omega (arith, pre .disk, pre .start));
+      rm = pre .bounded .rm _ (pre .start);
+      time = pre .reached;
+    }
 
 slice-aggregate-verification-row : tie.Need-slice-aggregate-verification-row
 slice-aggregate-verification-row c = search needs
@@ -28,20 +34,40 @@ slice-aggregate-verification-row c = search needs
 slice-aggregate-verification-row-2 : tie.Need-slice-aggregate-verification-row-2
 slice-aggregate-verification-row-2 c = search needs
 
-from-memory-requires : tie.Need-from-memory-requires
-from-memory-requires c κs = search needs
-
 verification-row-requires : tie.Need-verification-row-requires
-verification-row-requires c κs = ((refl, refl, usable-less _ _ _ (c .before .before .before .before .before .before .before .before .before .pre .1 .1) (table-usable _ (c .before .before .before .before .before .before .before .before .before .pre .0 .3) _ (c .before .before .before .before .before .before .before .before .before .pre .0 .2))), (c .before .before .before .before .before .before .before .before .before .pre .1 .0, omega (arith, c .before .before .before .before .before .before .before .before .before .pre .1 .1, c .before .before .before .before .before .before .before .before .before .pre .0 .3 .few-tasks), omega (arith, c .before .before .before .from-disk .ensures, disk-range (c .before .before .before .before .before .before .before .before .before .args .job .platform) (c .before .before .before .before .before .before .before .before .before .args .d), c .before .before .before .before .before .before .before .before .before .pre .0 .3 .rd, c .before .before .before .before .before .before .before .before .before .pre .1 .2), omega (arith, c .from-memory .ensures, memory-range (c .before .before .before .before .before .before .before .before .before .args .job .platform) (c .before .before .before .before .before .before .before .before .before .args .m), c .before .before .before .before .before .before .before .before .before .pre .0 .3 .rm)))
+verification-row-requires c κs =
+    let pre = c .before .before .before .before .before .before .before .pre in
+    let recoveries = c .before .before .recoveries in
+    record {
+      fresh = record { times = refl; positions-before = refl };
+      bounded = pre .bounded;
+      recoveries = recoveries .ensures .range;
+      start = pre .start;
+    }
 
 slice-aggregate-offer-copies : tie.Need-slice-aggregate-offer-copies
 slice-aggregate-offer-copies c = search needs
 
-cast-offer-copies : tie.Need-cast-offer-copies
-cast-offer-copies c = search needs
+memory-copies-requires : tie.Need-memory-copies-requires
+memory-copies-requires c κs = search needs
 
 offer-copies-requires : tie.Need-offer-copies-requires
-offer-copies-requires c κs = ((c .before .before .before .before .before .before .before .before .before .before .before .before .before .before .before .before .pre .0 .0, c .before .before .before .before .before .before .before .before .before .before .before .before .before .before .before .before .pre .0 .1, c .before .before .before .before .before .before .verification-row .ensures .times-long), ((c .before .before .before .before .before .before .before .before .before .before .before .before .before .before .before .before .pre .1 .0, omega (arith, c .before .before .before .before .before .before .before .before .before .before .before .before .before .before .before .before .pre .1 .1, c .before .before .before .before .before .before .before .before .before .before .before .before .before .before .before .before .pre .0 .3 .few-tasks), c .before .before .before .before .before .before .before .before .before .before .before .before .before .before .before .before .pre .0 .3 .cm), (omega (arith, c .before .before .before .before .before .before .before .before .before .before .before .before .before .before .before .before .pre .1 .2), λ w h. rw (c .before .before .before .before .before .before .verification-row .ensures .times w h) (reach-cap _ _ _ w))))
+offer-copies-requires c κs =
+    let pre = c .before .before .before .before .before .before .before .before .before .before .before .before .before .before .pre in
+    let verification-row = c .before .before .before .before .before .before .verification-row in
+    let memory-copies = c .memory-copies in
+    let args = c .before .before .before .before .before .before .before .before .before .before .before .before .before .before .args in
+    record {
+      rows = pre .rows;
+      part-long = verification-row .ensures .times-long;
+      copies-long = rw (memory-copies .ensures) (length-column cmStart (args .t .now) (pre .bounded .long) (omega arith));
+      start = pre .start;
+      few = pre .bounded .few;
+      reached = omega (arith, pre .reached);
+      parts = λ w h. rw (verification-row .ensures .times w h) (reach-cap _ _ _ w);
+      costs = λ w h.
+          rw (memory-copies .ensures, column-part cmStart (args .t .now) w (omega (arith, pre .bounded .few))) (pre .bounded .cm w h);
+    }
 
 same-length : tie.Need-same-length
 same-length c = search needs
@@ -50,22 +76,28 @@ same-length-2 : tie.Need-same-length-2
 same-length-2 c = search needs
 
 returns : tie.Need-returns
-returns c = offered-agree _ _ _ _ _ _ _ _ (λ w a b. memory-arrival (c .before .before .before .before .before .before .before .before .before .before .before .before .before .before .before .before .before .before .before .before .before .args .job) (c .before .before .before .before .before .before .before .before .before .before .before .before .before .before .before .before .before .before .before .before .before .args .d) (c .before .before .before .before .before .before .before .before .before .before .before .before .before .before .before .before .before .before .before .before .before .args .top) _ _ _ _ (table-row _ (c .before .before .before .before .before .before .before .before .before .before .before .before .before .before .before .before .before .before .before .before .before .pre .0 .3) _ (c .before .before .before .before .before .before .before .before .before .before .before .before .before .before .before .before .before .before .before .before .before .pre .0 .2) _ _ _ _ (c .before .before .before .before .before .before .before .before .before .before .before .before .before .before .before .before .before .before .before .before .before .pre .1 .1) _ _ (rw (c .before .before .before .before .before .before .before .before .before .before .before .before .before .before .before .from-disk .ensures, c .before .before .before .before .before .before .before .before .before .before .before .before .from-memory .ensures) at (c .before .before .before .before .before .before .before .before .before .before .before .verification-row .ensures))) w (omega arith)) (c .before .before .before .before .offer-copies .ensures)
+returns c =
+    let recoveries = c .before .before .before .before .before .before .before .before .before .before .before .before .before .before .recoveries in
+    let verification-row = c .before .before .before .before .before .before .before .before .before .before .before .verification-row in
+    let memory-copies = c .before .before .before .before .before .memory-copies in
+    let pre = c .before .before .before .before .before .before .before .before .before .before .before .before .before .before .before .before .before .before .before .pre in
+    let offer-copies = c .before .before .before .before .offer-copies in
+    let row = table-row _ _ _ _ _ _ (recoveries .ensures .value) _ _ (verification-row .ensures) in
+    offered-agree _ _ _ _ _ _ _ _
+    (λ w a b. rw (memory-copies .ensures) (memory-arrival _ _ _ (pre .bounded .few) _ _ _ _ row w (omega arith))) (offer-copies .ensures)
 
 pub offer-memory-spec : {M : Type 1} → statement M
 offer-memory-spec =
     tie.close
     (tie.spec
-    mul-mt
-    slice-read-mt
-    from-disk-requires
-    add-disk
+    mul-recoveries
+    slice-read-recoveries
+    recoveries-requires
     slice-aggregate-verification-row
     slice-aggregate-verification-row-2
-    from-memory-requires
     verification-row-requires
     slice-aggregate-offer-copies
-    cast-offer-copies
+    memory-copies-requires
     offer-copies-requires
     same-length
     same-length-2

@@ -1,11 +1,7 @@
 -- `search::walk::at_copy` meets its contract. The memory row names m, and the row of verifications from m the positions before. Assumes nothing.
 use mathlib.Core.Path.{refl}
 use native.Mathlib.Omega.{arith}
-use lib.ListN.{getD}
-use Rattle.pricing.proofs.Steps.{disk-range, memory-range}
-use Rattle.search.proofs.Entries.{usable-less}
-use Rattle.search.proofs.Levels.{table-usable}
-use Rattle.search.proofs.Backs.{copy-before, copy-time, copy-range, checks-row, copy-walking}
+use Rattle.search.proofs.Backs.{copy-before, copy-range, checks-row, copy-walking}
 use borrow.Author.Needs.{needs}
 use Rattle.search.proofs.walk.at_copy.Statement.{statement}
 use Rattle.search.proofs.walk.at_copy.Tie as tie
@@ -16,17 +12,30 @@ mul-m c = search needs
 array-read-m : tie.Need-array-read-m
 array-read-m c = search needs
 
-from-disk-requires : tie.Need-from-disk-requires
-from-disk-requires c κs = search needs
+mul-recoveries : tie.Need-mul-recoveries
+mul-recoveries c =
+    let pre = c .before .pre in
+    let range = copy-range _ _ _ _ _ (pre .row) (pre .order) (pre .in-memory) in
+    omega (arith, range .below, pre .bounded .few)
 
-mul-disk : tie.Need-mul-disk
-mul-disk c = omega (arith, copy-range (c .before .before .before .args .job) (c .before .before .before .args .d) (c .before .before .before .args .v) (c .before .before .before .args .t6) (c .before .before .before .args .t7) (c .before .before .before .pre .1 .1 .1) (c .before .before .before .pre .0 .2) (c .before .before .before .pre .1 .0 .1), c .before .before .before .pre .0 .3, c .before .before .before .pre .0 .1 .few-tasks)
+array-read-recoveries : tie.Need-array-read-recoveries
+array-read-recoveries c =
+    let pre = c .before .pre in
+    let range = copy-range _ _ _ _ _ (pre .row) (pre .order) (pre .in-memory) in
+    omega (arith, range .below, pre .bounded .few)
 
-array-read-disk : tie.Need-array-read-disk
-array-read-disk c = omega (arith, copy-range (c .before .before .before .args .job) (c .before .before .before .args .d) (c .before .before .before .args .v) (c .before .before .before .args .t6) (c .before .before .before .args .t7) (c .before .before .before .pre .1 .1 .1) (c .before .before .before .pre .0 .2) (c .before .before .before .pre .1 .0 .1), c .before .before .before .pre .0 .3, c .before .before .before .pre .0 .1 .few-tasks)
-
-add-disk : tie.Need-add-disk
-add-disk c = omega (arith, copy-range (c .before .before .before .args .job) (c .before .before .before .args .d) (c .before .before .before .args .v) (c .before .before .before .args .t6) (c .before .before .before .args .t7) (c .before .before .before .pre .1 .1 .1) (c .before .before .before .pre .0 .2) (c .before .before .before .pre .1 .0 .1), copy-time (c .before .before .before .args .job) (c .before .before .before .args .d) (c .before .before .before .args .v) (c .before .before .before .args .t6) (c .before .before .before .args .t7) (c .before .before .before .pre .1 .1 .1) (getD (c .before .before .before .args .t7) (c .before .before .before .args .v) 0) (omega (arith, copy-range (c .before .before .before .args .job) (c .before .before .before .args .d) (c .before .before .before .args .v) (c .before .before .before .args .t6) (c .before .before .before .args .t7) (c .before .before .before .pre .1 .1 .1) (c .before .before .before .pre .0 .2) (c .before .before .before .pre .1 .0 .1))), c .from-disk .ensures, disk-range (c .before .before .before .args .job .platform) (c .before .before .before .args .d), c .before .before .before .pre .0 .1 .rd)
+recoveries-requires : tie.Need-recoveries-requires
+recoveries-requires c κs =
+    let pre = c .before .pre in
+    let range = copy-range _ _ _ _ _ (pre .row) (pre .order) (pre .in-memory) in
+    record {
+      long = pre .bounded .long;
+      d-few = omega (arith, pre .order, pre .bounded .few);
+      m-few = omega (arith, range .below, pre .bounded .few);
+      rd = pre .bounded .rd _ (omega (arith, pre .order));
+      rm = pre .bounded .rm _ (omega (arith, range .below));
+      time = rw (range .time) (range .reached);
+    }
 
 slice-aggregate-verification-row : tie.Need-slice-aggregate-verification-row
 slice-aggregate-verification-row c = search needs
@@ -34,14 +43,32 @@ slice-aggregate-verification-row c = search needs
 slice-aggregate-verification-row-2 : tie.Need-slice-aggregate-verification-row-2
 slice-aggregate-verification-row-2 c = search needs
 
-from-memory-requires : tie.Need-from-memory-requires
-from-memory-requires c κs = search needs
-
 verification-row-requires : tie.Need-verification-row-requires
-verification-row-requires c κs = ((refl, refl, usable-less _ _ _ (c .before .before .before .before .before .before .pre .0 .3) (table-usable _ (c .before .before .before .before .before .before .pre .0 .1) _ (c .before .before .before .before .before .before .pre .0 .0))), (omega (arith, copy-range (c .before .before .before .before .before .before .args .job) (c .before .before .before .before .before .before .args .d) (c .before .before .before .before .before .before .args .v) (c .before .before .before .before .before .before .args .t6) (c .before .before .before .before .before .before .args .t7) (c .before .before .before .before .before .before .pre .1 .1 .1) (c .before .before .before .before .before .before .pre .0 .2) (c .before .before .before .before .before .before .pre .1 .0 .1)), omega (arith, c .before .before .before .before .before .before .pre .0 .3, c .before .before .before .before .before .before .pre .0 .1 .few-tasks), omega (arith, copy-range (c .before .before .before .before .before .before .args .job) (c .before .before .before .before .before .before .args .d) (c .before .before .before .before .before .before .args .v) (c .before .before .before .before .before .before .args .t6) (c .before .before .before .before .before .before .args .t7) (c .before .before .before .before .before .before .pre .1 .1 .1) (c .before .before .before .before .before .before .pre .0 .2) (c .before .before .before .before .before .before .pre .1 .0 .1), copy-time (c .before .before .before .before .before .before .args .job) (c .before .before .before .before .before .before .args .d) (c .before .before .before .before .before .before .args .v) (c .before .before .before .before .before .before .args .t6) (c .before .before .before .before .before .before .args .t7) (c .before .before .before .before .before .before .pre .1 .1 .1) (getD (c .before .before .before .before .before .before .args .t7) (c .before .before .before .before .before .before .args .v) 0) (omega (arith, copy-range (c .before .before .before .before .before .before .args .job) (c .before .before .before .before .before .before .args .d) (c .before .before .before .before .before .before .args .v) (c .before .before .before .before .before .before .args .t6) (c .before .before .before .before .before .before .args .t7) (c .before .before .before .before .before .before .pre .1 .1 .1) (c .before .before .before .before .before .before .pre .0 .2) (c .before .before .before .before .before .before .pre .1 .0 .1))), c .before .before .before .from-disk .ensures, disk-range (c .before .before .before .before .before .before .args .job .platform) (c .before .before .before .before .before .before .args .d), c .before .before .before .before .before .before .pre .0 .1 .rd), omega (arith, c .from-memory .ensures, memory-range (c .before .before .before .before .before .before .args .job .platform) (getD (c .before .before .before .before .before .before .args .t7) (c .before .before .before .before .before .before .args .v) 0), c .before .before .before .before .before .before .pre .0 .1 .rm)))
+verification-row-requires c κs =
+    let pre = c .before .before .before .before .pre in
+    let recoveries = c .before .before .recoveries in
+    let range = copy-range _ _ _ _ _ (pre .row) (pre .order) (pre .in-memory) in
+    record {
+      fresh = record { times = refl; positions-before = refl };
+      bounded = pre .bounded;
+      recoveries = recoveries .ensures .range;
+      start = omega (arith, range .below);
+    }
 
 returns : tie.Need-returns
-returns c = (copy-walking _ _ _ _ _ _ _ (c .before .before .before .before .before .before .before .before .before .pre .0 .2) (c .before .before .before .before .before .before .before .before .before .pre .0 .3) (c .before .before .before .before .before .before .before .before .before .pre .1 .0 .0) (c .before .before .before .before .before .before .before .before .before .pre .1 .0 .1) (c .before .before .before .before .before .before .before .before .before .pre .1 .1 .0 .0) (c .before .before .before .before .before .before .before .before .before .pre .1 .1 .0 .1) (c .before .before .before .before .before .before .before .before .before .pre .1 .1 .0 .2) (c .before .before .before .before .before .before .before .before .before .pre .1 .1 .1) (checks-row _ (c .before .before .before .before .before .before .before .before .before .pre .0 .1) _ (c .before .before .before .before .before .before .before .before .before .pre .0 .0) _ _ _ _ (c .before .before .before .before .before .before .before .before .before .pre .0 .3) (copy-time (c .before .before .before .before .before .before .before .before .before .args .job) (c .before .before .before .before .before .before .before .before .before .args .d) (c .before .before .before .before .before .before .before .before .before .args .v) (c .before .before .before .before .before .before .before .before .before .args .t6) (c .before .before .before .before .before .before .before .before .before .args .t7) (c .before .before .before .before .before .before .before .before .before .pre .1 .1 .1) (getD (c .before .before .before .before .before .before .before .before .before .args .t7) (c .before .before .before .before .before .before .before .before .before .args .v) 0) (omega (arith, copy-range (c .before .before .before .before .before .before .before .before .before .args .job) (c .before .before .before .before .before .before .before .before .before .args .d) (c .before .before .before .before .before .before .before .before .before .args .v) (c .before .before .before .before .before .before .before .before .before .args .t6) (c .before .before .before .before .before .before .before .before .before .args .t7) (c .before .before .before .before .before .before .before .before .before .pre .1 .1 .1) (c .before .before .before .before .before .before .before .before .before .pre .0 .2) (c .before .before .before .before .before .before .before .before .before .pre .1 .0 .1)))) _ _ (rw (c .before .before .before .before .before .before .from-disk .ensures, c .before .before .before .from-memory .ensures) at (c .before .before .verification-row .ensures))), refl, refl, copy-before _ _ _ _ _ (c .before .before .before .before .before .before .before .before .before .pre .1 .1 .1) (c .before .before .before .before .before .before .before .before .before .pre .0 .2), refl)
+returns c =
+    let pre = c .before .before .before .before .before .before .before .pre in
+    let recoveries = c .before .before .before .before .before .recoveries in
+    let verification-row = c .before .before .verification-row in
+    let range = copy-range _ _ _ _ _ (pre .row) (pre .order) (pre .in-memory) in
+    let checks = checks-row _ _ _ _ _ _ (recoveries .ensures .value) (range .time) _ _ (verification-row .ensures) in
+    record {
+      walking = copy-walking _ _ _ _ _ _ _ (pre .order) (pre .on-disk) (pre .in-memory) (pre .low) (pre .high) (pre .is-d) (pre .row) checks;
+      k-is = refl;
+      d-is = refl;
+      m-is = copy-before _ _ _ _ _ (pre .row) (pre .order);
+      v-is = refl;
+    }
 
 pub at-copy-spec : {M : Type 1} → statement M
 at-copy-spec =
@@ -49,12 +76,10 @@ at-copy-spec =
     (tie.spec
     mul-m
     array-read-m
-    from-disk-requires
-    mul-disk
-    array-read-disk
-    add-disk
+    mul-recoveries
+    array-read-recoveries
+    recoveries-requires
     slice-aggregate-verification-row
     slice-aggregate-verification-row-2
-    from-memory-requires
     verification-row-requires
     returns)

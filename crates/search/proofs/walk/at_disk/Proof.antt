@@ -1,12 +1,10 @@
 -- `search::walk::at_disk` meets its contract. The disk row names d, and the memory row from d up to v is filled anew. Assumes nothing.
-use Prim.Native.Nat.{_≤_}
-use mathlib.Core.Path.{refl, _∙_}
+use mathlib.Core.Path.{refl}
 use native.Mathlib.Omega.{arith}
-use lib.Dec.{lit≤}
 use Rattle.search.proofs.Backs.{disk-before, disk-range}
-use borrow.Author.Needs.{needs}
 use Rattle.search.proofs.walk.at_disk.Statement.{statement}
 use Rattle.search.proofs.walk.at_disk.Tie as tie
+use borrow.Author.Needs.{needs}
 
 mul-d : tie.Need-mul-d
 mul-d c = search needs
@@ -21,13 +19,33 @@ slice-aggregate-memory-row-2 : tie.Need-slice-aggregate-memory-row-2
 slice-aggregate-memory-row-2 c = search needs
 
 memory-row-requires : tie.Need-memory-row-requires
-memory-row-requires c κs = ((refl, refl, c .before .before .before .before .before .pre .0 .0, c .before .before .before .before .before .pre .0 .1), (omega (arith, disk-range (c .before .before .before .before .before .args .job) (c .before .before .before .before .before .args .backs .now) (c .before .before .before .before .before .pre .1 .0) (c .before .before .before .before .before .args .v) (c .before .before .before .before .before .pre .0 .2) (c .before .before .before .before .before .pre .0 .3) (c .before .before .before .before .before .pre .1 .1)), c .before .before .before .before .before .pre .0 .3))
+memory-row-requires c κs =
+    let pre = c .before .before .before .before .before .pre in
+    let range = disk-range _ _ _ (pre .backs-row) (pre .some-task) (pre .on-disk) in
+    record { fresh = record { times = refl; positions-before = refl }; bounded = pre .bounded; start = omega (arith, range .below) }
 
 at-copy-requires : tie.Need-at-copy-requires
-at-copy-requires c κs = ((c .before .before .before .before .before .before .before .before .pre .0 .0, c .before .before .before .before .before .before .before .before .pre .0 .1, disk-range (c .before .before .before .before .before .before .before .before .args .job) (c .before .before .before .before .before .before .before .before .args .backs .now) (c .before .before .before .before .before .before .before .before .pre .1 .0) (c .before .before .before .before .before .before .before .before .args .v) (c .before .before .before .before .before .before .before .before .pre .0 .2) (c .before .before .before .before .before .before .before .before .pre .0 .3) (c .before .before .before .before .before .before .before .before .pre .1 .1) .0, c .before .before .before .before .before .before .before .before .pre .0 .3), ((disk-range (c .before .before .before .before .before .before .before .before .args .job) (c .before .before .before .before .before .before .before .before .args .backs .now) (c .before .before .before .before .before .before .before .before .pre .1 .0) (c .before .before .before .before .before .before .before .before .args .v) (c .before .before .before .before .before .before .before .before .pre .0 .2) (c .before .before .before .before .before .before .before .before .pre .0 .3) (c .before .before .before .before .before .before .before .before .pre .1 .1) .1, disk-range (c .before .before .before .before .before .before .before .before .args .job) (c .before .before .before .before .before .before .before .before .args .backs .now) (c .before .before .before .before .before .before .before .before .pre .1 .0) (c .before .before .before .before .before .before .before .before .args .v) (c .before .before .before .before .before .before .before .before .pre .0 .2) (c .before .before .before .before .before .before .before .before .pre .0 .3) (c .before .before .before .before .before .before .before .before .pre .1 .1) .2), ((lit≤ tt, lit≤ tt, λ _. disk-before (c .before .before .before .before .before .before .before .before .args .job) (c .before .before .before .before .before .before .before .before .args .backs .now) (c .before .before .before .before .before .before .before .before .pre .1 .0) (c .before .before .before .before .before .before .before .before .args .v) (c .before .before .before .before .before .before .before .before .pre .0 .2) (c .before .before .before .before .before .before .before .before .pre .0 .3)), c .before .before .memory-row .ensures)))
+at-copy-requires c κs =
+    let pre = c .before .before .before .before .before .before .before .before .pre in
+    let memory-row = c .before .before .memory-row in
+    let range = disk-range _ _ _ (pre .backs-row) (pre .some-task) (pre .on-disk) in
+    record {
+      bounded = pre .bounded;
+      order = range .below;
+      on-disk = range .on-disk;
+      in-memory = range .in-memory;
+      low = omega arith;
+      high = omega arith;
+      is-d = λ _. disk-before _ _ _ (pre .backs-row) (pre .some-task);
+      row = memory-row .ensures;
+    }
 
 returns : tie.Need-returns
-returns c = (c .at-copy .ensures .0, c .at-copy .ensures .1, c .at-copy .ensures .2 ∙ disk-before (c .before .before .before .before .before .before .before .before .before .args .job) (c .before .before .before .before .before .before .before .before .before .args .backs .now) (c .before .before .before .before .before .before .before .before .before .pre .1 .0) (c .before .before .before .before .before .before .before .before .before .args .v) (c .before .before .before .before .before .before .before .before .before .pre .0 .2) (c .before .before .before .before .before .before .before .before .before .pre .0 .3), rw (disk-before (c .before .before .before .before .before .before .before .before .before .args .job) (c .before .before .before .before .before .before .before .before .before .args .backs .now) (c .before .before .before .before .before .before .before .before .before .pre .1 .0) (c .before .before .before .before .before .before .before .before .before .args .v) (c .before .before .before .before .before .before .before .before .before .pre .0 .2) (c .before .before .before .before .before .before .before .before .before .pre .0 .3)) at (c .at-copy .ensures .3), c .at-copy .ensures .4)
+returns c =
+    let pre = c .before .before .before .before .before .before .before .before .before .pre in
+    let at-copy = c .at-copy in
+    let back = disk-before _ _ _ (pre .backs-row) (pre .some-task) in
+    rw (← back) (at-copy .ensures)
 
 pub at-disk-spec : {M : Type 1} → statement M
 at-disk-spec =

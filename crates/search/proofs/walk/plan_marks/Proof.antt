@@ -1,39 +1,67 @@
--- `search::walk::plan_marks` meets its contract. The loop's invariant: the marks after w.v are the plan's, and w is the place of the theory's walk there. The measure is w.v. Assumes nothing.
-use Prim.Native.Nat.{_-_}
+-- `search::walk::plan_marks` meets its contract. The loop's invariant: the marks after w.v are the plan's, and w is the place of the theory's walk there. The
+-- measure is w.v. Assumes nothing.
 use native.Mathlib.Omega.{arith}
-use Rattle.search.proofs.Backs.{Placed, placed-first, placed-next, placed-last}
+use Rattle.search.proofs.Backs.{backs-less, Placed, placed-first, placed-next, placed-last}
+use Rattle.search.proofs.Tables.{bounded-less}
 use Rattle.search.proofs.walk.plan_marks.Statement.{statement}
 use Rattle.search.proofs.walk.plan_marks.Tie as tie
 
 abbrev Inv-loop : tie.InvT-loop
-Inv-loop t backs job marks₀ w₀ marks w = Placed job w marks
+Inv-loop t backs n marks₀ w₀ marks w = Placed t n w marks
 
 abbrev μ-loop : tie.MeasureT-loop
-μ-loop t backs job marks₀ w₀ marks w = w .v
+μ-loop t backs n marks₀ w₀ marks w = w .v
 
 at-disk-requires : tie.Need-at-disk-requires Inv-loop μ-loop
-at-disk-requires c κs = ((c .before .before .pre .0, c .before .before .pre .1, c .before .before .pre .1 .some-task, omega arith), (c .before .before .pre .2, c .before .before .pre .3))
+at-disk-requires c κs =
+    let pre = c .before .before .pre in
+    record { bounded = pre .bounded; some-task = pre .some-task; backs-row = pre .backs-row; on-disk = pre .in-time }
 
 loop-holds : tie.Need-loop-holds Inv-loop μ-loop
-loop-holds c = placed-first _ _ (c .at-disk .ensures .0) (c .at-disk .ensures .1) (c .at-disk .ensures .2) (c .at-disk .ensures .3) (c .at-disk .ensures .4)
+loop-holds c =
+    let at-disk = c .at-disk in
+    placed-first _ _ _ (at-disk .ensures)
 
 sub-marks : tie.Need-sub-marks Inv-loop μ-loop
-sub-marks c = omega arith
+sub-marks c =
+    let if1 = c .if1 in
+    omega (arith, if1 .taken)
 
 array-write-marks : tie.Need-array-write-marks Inv-loop μ-loop
-array-write-marks c = omega (arith, c .before .before .loop .inv .within, c .before .before .before .before .before .before .pre .1 .few-tasks)
+array-write-marks c =
+    let loop = c .before .before .loop in
+    let pre = c .before .before .before .before .before .before .pre in
+    omega (arith, loop .inv .within, pre .bounded .few)
 
 step-back-requires : tie.Need-step-back-requires Inv-loop μ-loop
-step-back-requires c κs = (c .before .before .before .before .before .before .pre .0, c .before .before .before .before .before .before .pre .1, c .before .before .before .before .before .before .pre .2, c .before .before .loop .inv .walking (c .if1 .taken))
+step-back-requires c κs =
+    let loop = c .before .before .loop in
+    let pre = c .before .before .before .before .before .before .pre in
+    let if1 = c .if1 in
+    record {
+      bounded = bounded-less _ _ _ (loop .inv .within) (pre .bounded);
+      backs-row = backs-less _ _ _ _ _ (loop .inv .within) (pre .backs-row);
+      walking = loop .inv .walking (if1 .taken);
+    }
 
 loop-less : tie.Need-loop-less Inv-loop μ-loop
-loop-less c = c .step-back .ensures .falls
+loop-less c =
+    let step-back = c .step-back in
+    step-back .ensures .falls
 
 loop-again : tie.Need-loop-again Inv-loop μ-loop
-loop-again c = placed-next _ _ _ _ (c .before .before .before .loop .inv) (c .before .if1 .taken) (c .before .before .before .before .before .before .before .pre .1 .few-tasks) (c .step-back .ensures)
+loop-again c =
+    let loop = c .before .before .before .loop in
+    let if1 = c .before .if1 in
+    let pre = c .before .before .before .before .before .before .before .pre in
+    let step-back = c .step-back in
+    placed-next _ _ _ _ _ (loop .inv) (if1 .taken) (omega (arith, pre .bounded .few)) (step-back .ensures)
 
 returns : tie.Need-returns Inv-loop μ-loop
-returns c = placed-last _ _ _ (c .before .before .loop .inv) (c .if1 .left)
+returns c =
+    let loop = c .before .before .loop in
+    let if1 = c .if1 in
+    placed-last _ _ _ _ (loop .inv) (if1 .left)
 
 pub plan-marks-spec : {M : Type 1} → statement M
 plan-marks-spec =

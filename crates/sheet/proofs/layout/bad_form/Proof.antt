@@ -1,7 +1,7 @@
 -- `sheet::layout::bad_form` meets its contract. The code is the definition of condition 2. Assumes nothing.
 use mathlib.Core.Path.{refl}
 use borrow.Author.Tests.{eq-eqb, ne-eqb}
-use Rattle.sheet.specs.Sheet.{badForm}
+use Rattle.sheet.specs.Layout.{badForm}
 use borrow.Author.Needs.{needs}
 use Rattle.sheet.proofs.layout.bad_form.Statement.{statement}
 use Rattle.sheet.proofs.layout.bad_form.Tie as tie

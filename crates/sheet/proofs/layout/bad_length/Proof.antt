@@ -1,6 +1,6 @@
 -- `sheet::layout::bad_length` meets its contract. The code is the definition of condition 1. Assumes nothing.
 use borrow.Author.Tests.{lt-ltb, le-ltb}
-use Rattle.sheet.specs.Sheet.{badLength}
+use Rattle.sheet.specs.Layout.{badLength}
 use Rattle.sheet.proofs.layout.bad_length.Statement.{statement}
 use Rattle.sheet.proofs.layout.bad_length.Tie as tie
 

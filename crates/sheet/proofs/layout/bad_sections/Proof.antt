@@ -2,7 +2,7 @@
 use mathlib.Core.Path.{ap}
 use mathlib.Core.Bool.{not}
 use lib.Dec.{eqb}
-use Rattle.sheet.specs.Sheet.{badSections}
+use Rattle.sheet.specs.Layout.{badSections}
 use borrow.Author.Needs.{needs}
 use Rattle.sheet.proofs.layout.bad_sections.Statement.{statement}
 use Rattle.sheet.proofs.layout.bad_sections.Tie as tie

@@ -1,7 +1,7 @@
 -- `sheet::layout::is_one_of_each` meets its contract. Each return rewrites the definition by the branch that led there. Assumes nothing.
 use borrow.Author.Tests.{eq-eqb, ne-eqb}
 use mathlib.Core.Bool.{or-false}
-use Rattle.sheet.specs.Sheet.{oneOfEach}
+use Rattle.sheet.specs.Layout.{oneOfEach}
 use Rattle.sheet.proofs.layout.is_one_of_each.Statement.{statement}
 use Rattle.sheet.proofs.layout.is_one_of_each.Tie as tie
 

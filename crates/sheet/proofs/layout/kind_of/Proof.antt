@@ -1,5 +1,5 @@
 -- `sheet::layout::kind_of` meets its contract. The byte at its place in the section. Assumes nothing.
-use Rattle.sheet.specs.Sheet.{kind}
+use Rattle.sheet.specs.Layout.{kind}
 use borrow.Author.Needs.{needs}
 use Rattle.sheet.proofs.layout.kind_of.Statement.{statement}
 use Rattle.sheet.proofs.layout.kind_of.Tie as tie

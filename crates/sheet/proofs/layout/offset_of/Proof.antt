@@ -1,5 +1,5 @@
--- `sheet::layout::offset_of` meets its contract. The field at its place in the entry. Assumes nothing.
-use Rattle.sheet.specs.Sheet.{offset}
+-- `sheet::layout::offset_of` meets its contract. The field at its place in the pair. Assumes nothing.
+use Rattle.sheet.specs.Layout.{offset}
 use borrow.Author.Needs.{needs}
 use Rattle.sheet.proofs.layout.offset_of.Statement.{statement}
 use Rattle.sheet.proofs.layout.offset_of.Tie as tie

@@ -1,5 +1,5 @@
 -- `sheet::layout::task_count` meets its contract. The byte at its place in the header. Assumes nothing.
-use Rattle.sheet.specs.Sheet.{tasks}
+use Rattle.sheet.specs.Layout.{tasks}
 use borrow.Author.Needs.{needs}
 use Rattle.sheet.proofs.layout.task_count.Statement.{statement}
 use Rattle.sheet.proofs.layout.task_count.Tie as tie

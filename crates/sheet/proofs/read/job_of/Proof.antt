@@ -1,6 +1,9 @@
--- `sheet::read::job_of` meets its contract. The task count and the two sections, each by the contract that reads it. Assumes nothing.
+-- `sheet::read::job_of` meets its contract. The task count and the two sections, each looked up and handed to its reader. Assumes nothing.
+use mathlib.Core.Path.{refl}
 use native.Mathlib.Omega.{arith}
-use Rattle.sheet.specs.Sheet.{jobOf}
+use Rattle.sheet.specs.Layout.{platformKind, weightsKind}
+use Rattle.sheet.specs.Reading.{jobOf}
+use Rattle.sheet.proofs.Lookups.{lookup-section}
 use Rattle.sheet.proofs.Sections.{layout-tasks}
 use borrow.Author.Needs.{needs}
 use Rattle.sheet.proofs.read.job_of.Statement.{statement}
@@ -9,29 +12,47 @@ use Rattle.sheet.proofs.read.job_of.Tie as tie
 task-count-requires : tie.Need-task-count-requires
 task-count-requires c κs = search needs
 
-section-of-requires : tie.Need-section-of-requires
-section-of-requires c κs = search needs
+lookup-requires : tie.Need-lookup-requires
+lookup-requires c κs = search needs
 
 platform-of-requires : tie.Need-platform-of-requires
 platform-of-requires c κs = search needs
 
-section-of-requires-2 : tie.Need-section-of-requires-2
-section-of-requires-2 c κs = search needs
+lookup-requires-2 : tie.Need-lookup-requires-2
+lookup-requires-2 c κs = search needs
 
 weights-of-requires : tie.Need-weights-of-requires
-weights-of-requires c κs = omega (arith, c .before .before .before .task-count .ensures .0, layout-tasks _ (c .before .before .before .before .before .pre) .1)
+weights-of-requires c κs =
+    let task-count = c .before .before .before .task-count in
+    let pre = c .before .before .before .before .before .pre in
+    omega (arith, task-count .ensures .0, layout-tasks _ (pre) .few-tasks)
 
 returns : tie.Need-returns
 unfolding jobOf
-returns c = rw (c .weights-of .ensures, c .before .before .before .before .task-count .ensures .0, c .before .before .platform-of .ensures, c .before .before .before .section-of .ensures, c .before .section-of2 .ensures)
+returns c =
+    let weights-of = c .weights-of in
+    let task-count = c .before .before .before .before .task-count in
+    let platform-of = c .before .before .platform-of in
+    let lookup = c .before .before .before .lookup in
+    let lookup2 = c .before .lookup2 in
+    let pre = c .before .before .before .before .before .before .pre in
+    rw (
+      weights-of .ensures,
+      task-count .ensures .0,
+      platform-of .ensures,
+      lookup .ensures .bytes,
+      lookup2 .ensures .bytes,
+      lookup-section _ platformKind pre refl,
+      lookup-section _ weightsKind pre refl,
+    )
 
 pub job-of-spec : {M : Type 1} → statement M
 job-of-spec =
     tie.close
     (tie.spec
     task-count-requires
-    section-of-requires
+    lookup-requires
     platform-of-requires
-    section-of-requires-2
+    lookup-requires-2
     weights-of-requires
     returns)

@@ -1,46 +1,41 @@
--- `sheet::read::read` meets its contract. The sheet's refusal decides between the two cases, and the values are those of its job. Assumes nothing.
-use mathlib.Core.Path.{sym, _∙_}
+-- `sheet::read::read` meets its contract. The reading's number decides between the two cases, and the values are those of its job. Assumes nothing.
+use mathlib.Core.Path.{refl, sym, _∙_, ap}
 use native.Mathlib.Omega.{arith}
-use Rattle.sheet.specs.Sheet.{sheetOf, Says}
-use Rattle.sheet.proofs.Readings.{sheet-layout}
+use Rattle.sheet.specs.Layout.{weightsKind}
+use Rattle.sheet.specs.Reading.{jobOf, sheetOf, Says}
+use Rattle.sheet.specs.declared.Found.{Found}
+use Rattle.sheet.specs.declared.JobReading.{JobReading}
+use Rattle.sheet.proofs.Lookups.{lookup-start}
+use Rattle.sheet.proofs.Readings.{reading-number, reading-job, sheet-layout}
 use borrow.Author.Needs.{needs}
 use Rattle.sheet.proofs.read.read.Statement.{statement}
 use Rattle.sheet.proofs.read.read.Tie as tie
 
-sheet-refusal-requires : tie.Need-sheet-refusal-requires
-sheet-refusal-requires c κs = search needs
+read-job-requires : tie.Need-read-job-requires
+read-job-requires c κs = search needs
 
 returns : tie.Need-returns
 unfolding Says
-returns c = (sym (c .before .sheet-refusal .ensures), omega arith)
+returns c =
+    let read-job = c .before .before .read-job in
+    let if1 = c .if1 in
+    let number = ap (λ (r : JobReading). r .number) (read-job .ensures) ∙ reading-number _ in
+    (sym number, omega (arith, if1 .taken))
 
-task-count-requires : tie.Need-task-count-requires
-task-count-requires c κs = search needs
-
-section-of-requires : tie.Need-section-of-requires
-section-of-requires c κs = sheet-layout _ (sym (c .before .before .sheet-refusal .ensures) ∙ c .before .if1 .left)
-
-platform-of-requires : tie.Need-platform-of-requires
-platform-of-requires c κs = search needs
-
-section-start-requires : tie.Need-section-start-requires
-section-start-requires c κs = search needs
+find-requires : tie.Need-find-requires
+find-requires c κs = search needs
 
 returns-2 : tie.Need-returns-2
-unfolding sheetOf Says
-returns-2 c = (
-  sym (c .before .before .before .before .before .sheet-refusal .ensures) ∙ c .before .before .before .before .if1 .left,
-  rw (c .before .before .before .task-count .ensures .0, c .before .platform-of .ensures, c .before .before .section-of .ensures, c .section-start .ensures .0),
-)
+unfolding Says jobOf sheetOf
+returns-2 c =
+    let read-job = c .before .before .before .before .before .read-job in
+    let if1 = c .before .before .before .if1 in
+    let find = c .find in
+    let number = ap (λ (r : JobReading). r .number) (read-job .ensures) ∙ reading-number _ in
+    let accepted = sym number ∙ if1 .left in
+    let job = ap (λ (r : JobReading). r .job) (read-job .ensures) ∙ reading-job _ accepted in
+    let start = ap (λ (f : Found). f .start) (find .ensures) ∙ lookup-start _ weightsKind (sheet-layout _ accepted) refl in
+    (accepted, rw (job, start))
 
 pub read-spec : {M : Type 1} → statement M
-read-spec =
-    tie.close
-    (tie.spec
-    sheet-refusal-requires
-    returns
-    task-count-requires
-    section-of-requires
-    platform-of-requires
-    section-start-requires
-    returns-2)
+read-spec = tie.close (tie.spec read-job-requires returns find-requires returns-2)

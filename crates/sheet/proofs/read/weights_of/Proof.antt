@@ -1,12 +1,14 @@
--- `sheet::read::weights_of` meets its contract. The loop's invariant: the entries passed are the sheet's weights, and 0 stands in the others. The measure is what is left of the tasks. Assumes nothing.
+-- `sheet::read::weights_of` meets its contract. The loop's invariant: the entries passed are the sheet's weights, and 0 stands in the others. The measure is
+-- what is left of the tasks. Assumes nothing.
 use Prim.Native.Nat.{_-_, _≤_}
-use Rattle.sheet.proofs.Tables.{weights-more}
 use mathlib.Core.Path.{_≡_, refl}
 use native.Mathlib.Omega.{arith}
-use borrow.Author.Needs.{needs}
-use Rattle.sheet.specs.Sheet.{weightsOf, tabulate}
+use Rattle.lists.specs.Lists.{tabulate}
+use Rattle.sheet.specs.Reading.{weightsOf}
+use Rattle.sheet.proofs.Weights.{weights-more}
 use Rattle.sheet.proofs.read.weights_of.Statement.{statement}
 use Rattle.sheet.proofs.read.weights_of.Tie as tie
+use borrow.Author.Needs.{needs}
 
 abbrev Inv-loop : tie.InvT-loop
 Inv-loop part n weights₀ j₀ weights j = (j ≤ n) × (weights ≡ weightsOf part j)
@@ -18,14 +20,8 @@ loop-holds : tie.Need-loop-holds Inv-loop μ-loop
 unfolding weightsOf tabulate
 loop-holds c = (search needs, refl)
 
-mul-field : tie.Need-mul-field Inv-loop μ-loop
-mul-field c = omega arith
-
-add-field : tie.Need-add-field Inv-loop μ-loop
-add-field c = omega arith
-
-field-requires : tie.Need-field-requires Inv-loop μ-loop
-field-requires c κs = omega arith
+section-field-requires : tie.Need-section-field-requires Inv-loop μ-loop
+section-field-requires c κs = omega arith
 
 mul-weights : tie.Need-mul-weights Inv-loop μ-loop
 mul-weights c = search needs
@@ -40,10 +36,16 @@ loop-less : tie.Need-loop-less Inv-loop μ-loop
 loop-less c = omega arith
 
 loop-again : tie.Need-loop-again Inv-loop μ-loop
-loop-again c = (omega arith, rw (c .before .before .loop .inv .1, c .field .ensures) (weights-more _ _ (omega arith)))
+loop-again c =
+    let loop = c .before .before .loop in
+    let section-field = c .section-field in
+    (omega arith, rw (loop .inv .1, section-field .ensures) (weights-more _ _ (omega arith)))
 
 returns : tie.Need-returns Inv-loop μ-loop
-returns c = let e : c .before .loop .j ≡ c .before .before .before .args .n = omega arith in rw (← e) (c .before .loop .inv .1)
+returns c =
+    let loop = c .before .loop in
+    let args = c .before .before .before .args in
+    let e : loop .j ≡ args .n = omega arith in rw (← e) (loop .inv .1)
 
 pub weights-of-spec : {M : Type 1} → statement M
 weights-of-spec =
@@ -52,9 +54,7 @@ weights-of-spec =
     Inv-loop
     μ-loop
     loop-holds
-    mul-field
-    add-field
-    field-requires
+    section-field-requires
     mul-weights
     array-write-weights
     add-j

@@ -1,0 +1,13 @@
+pub mod Equations
+pub mod Last
+pub mod Spent
+pub mod Search
+pub mod Products
+pub mod Lower
+pub mod Walk
+pub mod Attained
+pub mod Order
+pub mod Ties
+pub mod Agree
+pub mod Same
+pub mod Theorems

@@ -1,0 +1,4 @@
+pub mod Chain
+pub mod Time
+pub mod Plan
+pub mod Working

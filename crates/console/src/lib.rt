@@ -1,0 +1,145 @@
+// What the programs print and read: words and numbers on lines, marks as text, the sheet on standard input and marks in an argument.
+ghost use mathlib.Core.Path.{_≡_};
+ghost use mathlib.Core.Bool.{true, false, not};
+ghost use lib.ListN.{length};
+ghost use Rattle.io.specs.Counts.{Counts};
+ghost use Rattle.lists.specs.Lists.{some};
+ghost use Rattle.console.specs.Digits.{noDigit, TextOf, MarksOf};
+use job::TASK_LIMIT;
+use libc::STDIN_FILENO;
+use libc::STDOUT_FILENO;
+
+// Linux hands a program no argument of more than 131,071 bytes.
+pub const ARGUMENT_ROOM: usize = 131_072;
+
+const ZERO: u8 = b'0';
+
+const NINE: u8 = b'9';
+
+// Digits are decimal.
+const BASE: u8 = 10;
+
+// The digit of each mark.
+pub fn digits(marks: [u8; TASK_LIMIT]) -> [u8; TASK_LIMIT]
+    ensures { λ r. ⌜ TextOf marks r ⌝ }
+{
+    let mut text = [0u8; TASK_LIMIT];
+    let mut j: usize = 0;
+    while j < TASK_LIMIT {
+        text[j] = ZERO + marks[j] % BASE;
+        j += 1;
+    }
+    text
+}
+
+// Whether every byte of the text is a digit.
+fn is_digits(text: &[u8]) -> bool
+    ensures { λ r. ⌜ r ≡ not (some (length (now (text .entry))) (noDigit (now (text .entry)))) ⌝ }
+{
+    let mut j: usize = 0;
+    while j < text.len() {
+        let c = text[j];
+        if c < ZERO {
+            return false;
+        }
+        if NINE < c {
+            return false;
+        }
+        j += 1;
+    }
+    true
+}
+
+// The marks that a text of digits gives, in its place.
+fn convert(text: &mut [u8])
+    requires { ⌜ some (length (now text)) (noDigit (now text)) ≡ false ⌝ }
+    ensures { λ _. ⌜ MarksOf (now (text .entry)) (now (text .exit)) true ⌝ }
+{
+    let mut j: usize = 0;
+    while j < text.len() {
+        text[j] -= ZERO;
+        j += 1;
+    }
+}
+
+// The marks that a text of digits gives, in its place; false, and no byte written, where a byte is no digit.
+pub fn to_marks(text: &mut [u8]) -> bool
+    ensures { λ r. ⌜ MarksOf (now (text .entry)) (now (text .exit)) r ⌝ }
+{
+    if is_digits(text) {
+        convert(text);
+        return true;
+    }
+    false
+}
+
+// A line of text.
+pub fn line(words: &[u8]) {
+    io::write_all(STDOUT_FILENO, words);
+    io::write_all(STDOUT_FILENO, b"\n");
+}
+
+// A word and its number, on one line.
+pub fn numbered(word: &[u8], n: u64) {
+    io::write_all(STDOUT_FILENO, word);
+    io::write_all(STDOUT_FILENO, b" ");
+    io::print_decimal(STDOUT_FILENO, n);
+    io::write_all(STDOUT_FILENO, b"\n");
+}
+
+// The answer to a call that was refused.
+pub fn refused(number: u64) {
+    numbered(b"refused", number);
+}
+
+// How many bytes a read put at the start of its buffer, and whether it failed.
+pub struct Taken {
+    pub n: usize,
+    pub failed: bool,
+}
+
+// Reads until the buffer is full, the input ends or a read fails. Unlike `io::read_full`, it tells a failure from the input's end.
+pub fn read_all(fd: i32, buf: &mut [u8]) -> Taken
+    ensures { λ r. ⌜ Counts (r .n) (now (buf .exit)) ⌝ }
+{
+    let mut n: usize = 0;
+    while n < buf.len() {
+        let got = libc::read(fd, &mut buf[n..]);
+        if got < 0 {
+            return Taken { n, failed: true };
+        }
+        let more = io::count(got, &buf[n..]);
+        if more == 0 {
+            return Taken { n, failed: false };
+        }
+        n += more;
+    }
+    Taken { n, failed: false }
+}
+
+// The sheet on standard input; a read that fails has its line.
+pub fn read_sheet(sheet: &mut [u8]) -> Taken
+    ensures { λ r. ⌜ Counts (r .n) (now (sheet .exit)) ⌝ }
+{
+    let taken = read_all(STDIN_FILENO, sheet);
+    if taken.failed {
+        line(b"cannot read: sheet");
+    }
+    taken
+}
+
+// The marks that the first argument gives as digits; one that is too long or no digits has its line.
+pub fn read_marks(text: &mut [u8]) -> Taken
+    ensures { λ r. ⌜ Counts (r .n) (now (text .exit)) ⌝ }
+{
+    let n = os::arg(1, text);
+    if os::errno() != 0 {
+        line(b"argument too long: marks");
+        return Taken { n, failed: true };
+    }
+    if to_marks(&mut text[..n]) {
+        return Taken { n, failed: false };
+    }
+    line(b"not digits: marks");
+    Taken { n, failed: true }
+}

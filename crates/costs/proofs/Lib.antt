@@ -1,0 +1,4 @@
+-- The laws of costs that the crate's own proofs and the crates above cite.
+pub mod Ranges
+pub mod Stretches
+pub mod Settings

@@ -1,0 +1,95 @@
+// What a job puts into a chain: costs at each position, what a passed mark pays, and the factors of each stretch.
+ghost use mathlib.Core.Path.{_≡_};
+ghost use mathlib.Core.Bool.{cond};
+ghost use Prim.Native.Nat.{_≤_};
+ghost use Rattle.costs.specs.Costs.{vAt, cmAt, cdAt, rdAt, rmAt, verifyPaid, savesPaid};
+ghost use Rattle.costs.specs.Working.Costs.{CostIs};
+ghost use Rattle.costs.specs.Working.Factors.{factorsOf, ReadyForFactors};
+use chain::Factors;
+use job::Job;
+use job::Platform;
+use job::stretch::exponent_of;
+use marks::payments;
+
+// V at v.
+pub fn v_at(job: Job, v: usize) -> u64
+    ensures { λ r. ⌜ CostIs (vAt job v) r ⌝ }
+{
+    job.platform.v as u64
+}
+
+// C_M at v.
+pub fn cm_at(job: Job, v: usize) -> u64
+    ensures { λ r. ⌜ CostIs (cmAt job v) r ⌝ }
+{
+    job.platform.cm as u64
+}
+
+// C_D at v.
+pub fn cd_at(job: Job, v: usize) -> u64
+    ensures { λ r. ⌜ CostIs (cdAt job v) r ⌝ }
+{
+    job.platform.cd as u64
+}
+
+// R_D' where d is the last disk copy.
+pub fn rd_at(job: Job, d: usize) -> u64
+    ensures { λ r. ⌜ CostIs (rdAt job d) r ⌝ }
+{
+    if d == 0 {
+        return 0;
+    }
+    job.platform.rd as u64
+}
+
+// R_M' where m is the last memory copy.
+pub fn rm_at(job: Job, m: usize) -> u64
+    ensures { λ r. ⌜ CostIs (rmAt job m) r ⌝ }
+{
+    if m == 0 {
+        return 0;
+    }
+    job.platform.rm as u64
+}
+
+// The cost, where it is paid.
+fn paid(pays: bool, cost: u64) -> u64
+    ensures { λ r. ⌜ (r ≡ cond pays cost 0) × (r ≤ cost) ⌝ }
+{
+    if pays {
+        return cost;
+    }
+    0
+}
+
+// What a mark passed at v pays for its verification.
+pub fn verify_paid(job: Job, mark: u8, v: usize) -> u64
+    ensures { λ r. ⌜ r ≡ verifyPaid job mark v ⌝ }
+{
+    let pays = payments(mark);
+    paid(pays.v, v_at(job, v))
+}
+
+// What a mark passed at v pays for its copies.
+pub fn saves_paid(job: Job, mark: u8, v: usize) -> u64
+    ensures { λ r. ⌜ r ≡ savesPaid job mark v ⌝ }
+{
+    let pays = payments(mark);
+    paid(pays.cm, cm_at(job, v)) + paid(pays.cd, cd_at(job, v))
+}
+
+// The growth sums of a stretch of this weight, whose far end costs `v` to verify. The caps of G and H keep each product below 2^64.
+pub fn stretch_factors(p: Platform, weight: u64, v: u64) -> Factors
+    requires { ⌜ ReadyForFactors weight v ⌝ }
+    ensures { λ r. ⌜ r ≡ factorsOf p weight v ⌝ }
+{
+    let silent = exponent_of(p.silent, weight);
+    let failstop = exponent_of(p.failstop, weight);
+    let growth = growth::g(silent);
+    let work = units::rounded_up(weight * growth::h(failstop)) + v;
+    Factors {
+        work: units::rounded_up(growth * work),
+        silent: growth,
+        both: growth::g(silent + failstop),
+    }
+}

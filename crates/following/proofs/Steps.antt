@@ -1,0 +1,57 @@
+-- A step by its answers: one law for each refusal, in their order, and one for the place that is left. Assumes nothing.
+use mathlib.Core.Path.{_≡_, refl}
+use mathlib.Core.Bool.{Bool, true, false, _&&_, cond}
+use native.Mathlib.Omega.{arith}
+use borrow.Author.Tests.{eqb-false}
+use lib.Dec.{eqb}
+use Rattle.refusals.specs.Numbers
+use Rattle.refusals.specs.Refusals.{first}
+use Rattle.state.specs.State.{broken, finished, overTotal}
+use Rattle.following.specs.Run.{outOfTurn, overWeight, nextPlace, standing, stepRefusal, accepted, refused, stepOf}
+use Rattle.following.specs.Working.Ready.{ReadyForEvent, TaskRuns}
+use Rattle.state.specs.declared.Place.{Place}
+use Rattle.state.specs.declared.Run.{Run}
+use Rattle.following.specs.declared.Event.{Event}
+use Rattle.state.proofs.Soundness.{run-sound}
+
+module _ (run : Run) (event : Event) where
+  pub step-broken : broken run ≡ true → refused Numbers.broken run ≡ stepOf run event
+  unfolding stepOf stepRefusal first
+  step-broken b = rw b
+
+  pub step-finished : broken run ≡ false → finished run ≡ true → refused Numbers.finished run ≡ stepOf run event
+  unfolding stepOf stepRefusal first
+  step-finished b f = rw (b, f)
+
+  module _ (ready : ReadyForEvent run) where
+    pub step-out-of-turn : outOfTurn (run .place .awaiting) event ≡ true → refused Numbers.outOfTurn run ≡ stepOf run event
+    unfolding stepOf stepRefusal first
+    step-out-of-turn t = rw (ready .unbroken, ready .unfinished, t)
+
+    module _ (t : outOfTurn (run .place .awaiting) event ≡ false) where
+      pub step-over-weight : overWeight run event ≡ true → refused Numbers.overWeight run ≡ stepOf run event
+      unfolding stepOf stepRefusal first
+      step-over-weight w = rw (ready .unbroken, ready .unfinished, t, w)
+
+      -- the place after the event, unless its total passes the limit
+      pub step-arrives : overWeight run event ≡ false → (next : Place) → next ≡ nextPlace run event
+          → cond (overTotal (next .sums)) (refused Numbers.overTotal run) (accepted (standing run next)) ≡ stepOf run event
+      unfolding stepOf stepRefusal first
+      step-arrives w next e = rw (e, ready .unbroken, ready .unfinished, t, w) (go (overTotal (nextPlace run event .sums)))
+        where
+          go : (o : Bool) → cond o (refused Numbers.overTotal run) (accepted (standing run (nextPlace run event)))
+              ≡ record { number = cond o Numbers.overTotal 0; run = cond (eqb (cond o Numbers.overTotal 0) 0) (standing run (nextPlace run event)) run }
+          go true = refl
+          go false = refl
+
+-- while nothing is awaited in a run that is not finished, a task is running
+pub task-runs : (run : Run) → ReadyForEvent run → run .place .awaiting ≡ false → TaskRuns run
+unfolding finished
+task-runs run ready a =
+    let sound = run-sound run (ready .unbroken) in
+    let short = eqb-false (run .place .position) (run .job .tasks) (go (eqb (run .place .position) (run .job .tasks)) (rw a at (ready .unfinished))) in
+    record { sound = sound; running = omega (arith, sound .position, short) }
+  where
+    go : (x : Bool) → (x && true) ≡ false → x ≡ false
+    go true e = e
+    go false e = e

@@ -1,0 +1,6 @@
+-- The theorems on followed runs, their histories and their logs.
+pub mod Accepted
+pub mod Unbroken
+pub mod Histories
+pub mod Logs
+pub mod Unread

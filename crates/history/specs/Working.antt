@@ -1,0 +1,2 @@
+-- Definitions that the theorem on unread entries works with.
+pub mod Entries

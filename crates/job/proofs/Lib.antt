@@ -1,0 +1,3 @@
+-- The laws of jobs that the crate's own proofs and the crates above cite.
+pub mod Weights
+pub mod Ranges

@@ -1,0 +1,3 @@
+pub mod Job
+pub mod Checks
+pub mod Working

@@ -1,0 +1,1 @@
+// Tests over the numbers below a bound, and the list of a function: definitions and laws alone.

@@ -1,0 +1,66 @@
+-- Records of a log. A record is a part of 5 bytes, or what is left of the log; a record more is one step more while nothing is refused, and after a refusal the answer stays.
+-- Assumes nothing.
+use Prim.Native.Nat.{ℕ, zero, suc, _+_, _-_, _*_, _≤_, _<_}
+use mathlib.Core.Path.{_≡_, sym, _∙_}
+use mathlib.Core.List.{List}
+use mathlib.Core.Logic.{_⊎_, inl, inr}
+use native.Mathlib.Nat.{eq-or-lt-of-le, le-of-suc-le-suc}
+use native.Mathlib.Numerals.{add-one}
+use native.Mathlib.Omega.{arith}
+use borrow.Author.Tests.{ne-eqb}
+use lib.ListN.{length, take, drop, length-drop}
+use lib.Seq.{take-all}
+use Rattle.following.specs.Run.{accepted, refused}
+use Rattle.state.specs.declared.Run.{Run}
+use Rattle.following.specs.declared.Stepped.{Stepped}
+use Rattle.logs.specs.Log.{recordLength, recordAt, recorded, applied, orBefore}
+
+module _ (log : List ℕ) (i : ℕ) where
+  pub record-rest : length log - recordLength * i < recordLength → take (length log - recordLength * i) (drop (recordLength * i) log) ≡ recordAt log i
+  unfolding recordAt
+  record-rest h =
+      let left = length-drop (recordLength * i) log in
+      take-all (length log - recordLength * i) (drop (recordLength * i) log) (omega (arith, left))
+      ∙ sym (take-all recordLength (drop (recordLength * i) log) (omega (arith, left)))
+
+  pub record-whole : take (recordLength * i + recordLength - recordLength * i) (drop (recordLength * i) log) ≡ recordAt log i
+  unfolding recordAt
+  record-whole = let e : recordLength * i + recordLength - recordLength * i ≡ recordLength = omega arith in rw e
+
+-- after a refusal nothing is read
+recorded-refused : (s : Stepped) (r : List ℕ) → (s .number ≡ 0 → ⊥) → recorded s r ≡ s
+unfolding recorded
+recorded-refused s r h = rw (ne-eqb _ _ h)
+
+pub accepted-is : (a : Stepped) → a .number ≡ 0 → a ≡ accepted (a .run)
+accepted-is a e = rw (← e)
+
+module _ (run : Run) (log : List ℕ) where
+  pub applied-stays : (k n : ℕ) → k ≤ n → (applied run log k .number ≡ 0 → ⊥) → applied run log n ≡ applied run log k
+  unfolding applied
+  applied-stays k zero h r = let e : k ≡ 0 = omega arith in rw e
+  applied-stays k (suc n) h r = go (eq-or-lt-of-le h) (applied-stays k n)
+    where
+      go : (k ≡ suc n) ⊎ (k < suc n) → (k ≤ n → (applied run log k .number ≡ 0 → ⊥) → applied run log n ≡ applied run log k)
+          → applied run log (suc n) ≡ applied run log k
+      go (inl e) ih = rw e
+      go (inr l) ih = rw (ih (le-of-suc-le-suc l) r) (recorded-refused (applied run log k) (recordAt log n) r)
+
+  -- the answer to record k, where the records before it are accepted
+  module _ (k : ℕ) (state : Run) (before : applied run log k ≡ accepted state) (a : Stepped) (is : a ≡ recorded (accepted state) (recordAt log k)) where
+    one-more : applied run log (k + 1) ≡ a
+    unfolding applied
+    one-more = rw (add-one k, before) (sym is)
+
+    pub applied-more : a .number ≡ 0 → applied run log (k + 1) ≡ accepted (a .run)
+    applied-more e = one-more ∙ accepted-is a e
+
+    pub applied-stops : (a .number ≡ 0 → ⊥) → (n : ℕ) → k < n → refused (a .number) run ≡ orBefore run (applied run log n)
+    unfolding orBefore
+    applied-stops r n h =
+        let e : applied run log n ≡ a = applied-stays (k + 1) n (omega arith) (rw one-more r) ∙ one-more in
+        rw (e, ne-eqb _ _ r)
+
+  pub applied-all : (n : ℕ) (state : Run) → applied run log n ≡ accepted state → accepted state ≡ orBefore run (applied run log n)
+  unfolding orBefore
+  applied-all n state e = rw e

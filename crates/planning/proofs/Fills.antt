@@ -1,0 +1,210 @@
+-- The table is filled pair by pair and position by position: what is put is there, and what was there stays. A filled table holds the job's chain within
+-- bounds.
+-- Assumes nothing.
+use Prim.Native.Nat.{ℕ, _+_, _-_, _≤_, _<_}
+use mathlib.Core.Path.{_≡_, refl, _∙_, ap}
+use mathlib.Core.Logic.{inl, inr, _≢_}
+use mathlib.Core.Bool.{Bool, true, false, not}
+use mathlib.Core.List.{List}
+use native.Mathlib.Decide.{ℕ-discrete}
+use native.Mathlib.Omega.{arith}
+use borrow.Author.Tests.{eq-eqb, ne-eqb}
+use lib.Dec.{eqb}
+use lib.ListN.{length, getD, set, length-set}
+use lib.Seq.{getD-set-same, getD-set-other}
+use Rattle.growth.proofs.Laws.{G-cap}
+use Rattle.chain.specs.Working.Factors.{Factored}
+use Rattle.chain.specs.Working.Same.{Same}
+use Rattle.chain.specs.declared.Factors.{Factors}
+use Rattle.job.specs.Job.{total, weightAt, positions, between, stretchAllowed, exponent}
+use Rattle.job.specs.Working.Sound.{Sound}
+use Rattle.job.specs.declared.Job.{Job}
+use Rattle.job.specs.declared.Platform.{Platform}
+use Rattle.job.proofs.Weights.{total-more, total-mono, between-range}
+use Rattle.costs.specs.Costs.{vAt, cmAt, cdAt, rdAt, rmAt}
+use Rattle.costs.specs.Stretch.{chainOf}
+use Rattle.costs.specs.Working.Factors.{factorsOf, factorsAt, ReadyForFactors}
+use Rattle.costs.proofs.Ranges.{vAt-range, cmAt-range, cdAt-range, rdAt-range, rmAt-range, factors-bounded}
+use Rattle.costs.proofs.Stretches.{S-factors, not-allowed}
+use Rattle.search.specs.Working.Table.{tableLength, cmStart, cdStart, rdStart, rmStart, entryOf, column, chainIn, putPair, putCosts, PairFits, Packable, Bounded}
+use Rattle.search.specs.declared.table.Costs.{Costs}
+use Rattle.search.proofs.Tables.{length-putPair, putPair-here, putPair-apart, length-putCosts, putCosts-pair, putCosts-cm, putCosts-cd, putCosts-rd, putCosts-rm, putCosts-cm-apart, putCosts-cd-apart, putCosts-rd-apart, putCosts-rm-apart}
+use Rattle.planning.specs.Working.Fill.{Totals, EarlierPair, PairsTo, TableTo, TableOf}
+
+-- one total more
+pub totals-more : (w : List ℕ) (j : ℕ) (sums : List ℕ) → Totals w j sums → j + 1 < positions → Totals w (j + 1) (set sums (j + 1) (getD sums j 0 + weightAt w j))
+totals-more w j sums h l =
+    record {
+      long = length-set sums (j + 1) _ ∙ h .long;
+      sums-at = λ v k. at v k (ℕ-discrete v (j + 1));
+    }
+  where
+    next : ℕ
+    next = getD sums j 0 + weightAt w j
+
+    at : (v : ℕ) → v ≤ j + 1 → Dec (v ≡ j + 1) → getD (set sums (j + 1) next) v 0 ≡ total w v
+    at v k (yes e) = rw (e, getD-set-same sums (j + 1) next 0 (omega (arith, h .long)), h .sums-at j (omega arith), total-more w j)
+    at v k (no e) = getD-set-other sums (j + 1) v next 0 e ∙ h .sums-at v (omega arith)
+
+-- the weight of a stretch is the difference of two totals, which does not fall below 0 and is in range
+pub record Weighed (job : Job) (u v low high : ℕ) : Type 0 where
+  pub order : low ≤ high
+  pub weight : high - low ≡ between (job .weights) u v
+  pub ready : ReadyForFactors (between (job .weights) u v) (vAt job v)
+
+pub totals-between : (job : Job) → Sound job → (sums : List ℕ) → Totals (job .weights) (job .tasks) sums → (u v : ℕ) → u < v → v ≤ job .tasks
+    → Weighed job u v (getD sums u 0) (getD sums v 0)
+unfolding between
+totals-between job sound sums h u v a b =
+    record {
+      order = rw (h .sums-at u (omega arith), h .sums-at v b) (total-mono (job .weights) u v (omega arith));
+      weight = rw (h .sums-at u (omega arith), h .sums-at v b);
+      ready = record { weight-range = between-range job sound u v b; v-range = vAt-range job (sound .costs) v };
+    }
+
+-- growth sums fit 32 bits
+pub factors-packable : (p : Platform) (W v : ℕ) → Packable (factorsOf p W v)
+unfolding factorsOf
+factors-packable p W v =
+    record {
+      silent = omega (arith, G-cap (exponent (p .silent) W));
+      both = omega (arith, G-cap (exponent (p .silent) W + exponent (p .failstop) W));
+    }
+
+pub pairs-none : (job : Job) (t : List ℕ) → length t ≡ tableLength → PairsTo job 0 1 t
+pairs-none job t e = record { long = e; pairs = λ x y h k l. absurd (none x y h l) }
+  where
+    none : (x y : ℕ) → x < y → EarlierPair x y 0 1 → ⊥
+    none x y h (inl l) = omega arith
+    none x y h (inr l) = omega (arith, l .0, l .1)
+
+module _ (job : Job) (u v : ℕ) (t : List ℕ) (h : PairsTo job u v t) where
+  -- the factors of the next pair
+  pub pairs-more : u < v → v ≤ job .tasks → job .tasks < positions → (f : Factors) → f ≡ factorsAt job u v → PairsTo job u (v + 1) (putPair t u v f)
+  pairs-more k l few f e =
+      record {
+        long = length-putPair t u v f fits ∙ h .long;
+        pairs = λ x y a b c. at x y a b c (ℕ-discrete x u) (ℕ-discrete y v);
+      }
+    where
+      fits : PairFits t u v
+      fits = record { long = h .long; pair = record { order = k; few = omega arith } }
+
+      earlier : (x y : ℕ) → (x ≡ u → y ≡ v → ⊥) → EarlierPair x y u (v + 1) → EarlierPair x y u v
+      earlier x y n (inl z) = inl z
+      earlier x y n (inr z) = inr (z .0, omega (arith, z .1, n (z .0)))
+
+      other : (x y : ℕ) → x < y → y ≤ job .tasks → EarlierPair x y u (v + 1) → (x ≡ u → y ≡ v → ⊥) → entryOf (putPair t u v f) x y ≡ factorsAt job x y
+      other x y a b c n = putPair-apart t u v f fits x y (record { order = a; few = omega arith }) n ∙ h .pairs x y a b (earlier x y n c)
+
+      at : (x y : ℕ) → x < y → y ≤ job .tasks → EarlierPair x y u (v + 1) → Dec (x ≡ u) → Dec (y ≡ v) → entryOf (putPair t u v f) x y ≡ factorsAt job x y
+      at x y a b c (yes p) (yes q) = rw (p, q) (putPair-here t u v f fits ∙ e)
+      at x y a b c (yes p) (no q) = other x y a b c (λ _ z. q z)
+      at x y a b c (no p) q = other x y a b c (λ z _. p z)
+
+  -- after the last far end the next near end begins
+  pub pairs-next : job .tasks < v → PairsTo job (u + 1) (u + 2) t
+  pairs-next k = record { long = h .long; pairs = λ x y a b c. h .pairs x y a b (earlier x y a b c) }
+    where
+      earlier : (x y : ℕ) → x < y → y ≤ job .tasks → EarlierPair x y (u + 1) (u + 2) → EarlierPair x y u v
+      earlier x y a b (inl z) = go (ℕ-discrete x u)
+        where
+          go : Dec (x ≡ u) → EarlierPair x y u v
+          go (yes p) = inr (p, omega arith)
+          go (no p) = inl (omega arith)
+      earlier x y a b (inr z) = absurd (omega (arith, z .0, z .1))
+
+-- after the last near end all stretches are there
+pub table-first : (job : Job) (t : List ℕ) → PairsTo job (job .tasks) (job .tasks + 1) t → TableTo job 0 t
+table-first job t h =
+    record {
+      long = h .long;
+      pairs = λ x y a b. h .pairs x y a b (inl (omega arith));
+      cm = λ v k. absurd (omega arith);
+      cd = λ v k. absurd (omega arith);
+      rd = λ v k. absurd (omega arith);
+      rm = λ v k. absurd (omega arith);
+    }
+
+-- the costs of a position as the job gives them
+pub record CostsOf (job : Job) (v : ℕ) (c : Costs) : Type 0 where
+  pub cm : c .cm ≡ cmAt job v
+  pub cd : c .cd ≡ cdAt job v
+  pub rd : c .rd ≡ rdAt job v
+  pub rm : c .rm ≡ rmAt job v
+
+module _ (job : Job) (k : ℕ) (t : List ℕ) (h : TableTo job k t) (few : job .tasks < positions) (here : k ≤ job .tasks) (c : Costs) (is : CostsOf job k c) where
+  -- one column with its entry at k
+  column-more : (start : ℕ) (cost : ℕ → ℕ) → ((v : ℕ) → v < k → column start t v ≡ cost v) → column start (putCosts t k c) k ≡ cost k
+      → ((w : ℕ) → w < positions → w ≢ k → column start (putCosts t k c) w ≡ column start t w)
+      → (v : ℕ) → v < k + 1 → column start (putCosts t k c) v ≡ cost v
+  column-more start cost old new apart v l = go (ℕ-discrete v k)
+    where
+      go : Dec (v ≡ k) → column start (putCosts t k c) v ≡ cost v
+      go (yes e) = rw e new
+      go (no e) = apart v (omega arith) e ∙ old v (omega arith)
+
+  room : k < positions
+  room = omega arith
+
+  pub table-more : TableTo job (k + 1) (putCosts t k c)
+  table-more =
+      record {
+        long = length-putCosts t k c ∙ h .long;
+        pairs = λ x y a b. putCosts-pair t k c x y (record { order = a; few = omega arith }) ∙ h .pairs x y a b;
+        cm = column-more cmStart (cmAt job) (h .cm) (putCosts-cm t k c (h .long) room ∙ is .cm) (putCosts-cm-apart t k c (h .long) room);
+        cd = column-more cdStart (cdAt job) (h .cd) (putCosts-cd t k c (h .long) room ∙ is .cd) (putCosts-cd-apart t k c (h .long) room);
+        rd = column-more rdStart (rdAt job) (h .rd) (putCosts-rd t k c (h .long) room ∙ is .rd) (putCosts-rd-apart t k c (h .long) room);
+        rm = column-more rmStart (rmAt job) (h .rm) (putCosts-rm t k c (h .long) room ∙ is .rm) (putCosts-rm-apart t k c (h .long) room);
+      }
+
+-- a full table holds the job's chain
+module _ (job : Job) (sound : Sound job) (t : List ℕ) (full : TableTo job (job .tasks + 1) t) where
+  n : ℕ
+  n = job .tasks
+
+  ready : (u v : ℕ) → v ≤ job .tasks → ReadyForFactors (between (job .weights) u v) (vAt job v)
+  ready u v h = record { weight-range = between-range job sound u v h; v-range = vAt-range job (sound .costs) v }
+
+  allowed-factored : (u v : ℕ) → u < v → v ≤ job .tasks → stretchAllowed job u v ≡ true → Factored (entryOf t u v)
+  unfolding stretchAllowed
+  allowed-factored u v a b e = rw (full .pairs u v a b) (factors-bounded (ready u v b) (job .platform) e)
+
+  -- G(y_s + y_f) is 0 just where the stretch is not allowed
+  allowed-as : (u v : ℕ) → u < v → v ≤ job .tasks → (b : Bool) → stretchAllowed job u v ≡ b → not (eqb (entryOf t u v .both) 0) ≡ b
+  allowed-as u v h l true e =
+      let f = allowed-factored u v h l e in
+      ap not (ne-eqb (entryOf t u v .both) 0 (λ z. omega (arith, f .silent, f .both)))
+  allowed-as u v h l false e =
+      ap not (eq-eqb (entryOf t u v .both) 0 (ap (λ (f : Factors). f .both) (full .pairs u v h l) ∙ not-allowed job u v e))
+
+  factored-if : (u v : ℕ) → u < v → v ≤ job .tasks → (b : Bool) → stretchAllowed job u v ≡ b → entryOf t u v .both ≢ 0 → Factored (entryOf t u v)
+  factored-if u v h l true e n = allowed-factored u v h l e
+  factored-if u v h l false e n = absurd (n (ap (λ (f : Factors). f .both) (full .pairs u v h l) ∙ not-allowed job u v e))
+
+  table-bounded : Bounded (job .tasks) t
+  table-bounded =
+      record {
+        long = full .long;
+        few = omega (arith, sound .few-tasks);
+        factored = λ u v a b k. factored-if u v a b (stretchAllowed job u v) refl k;
+        cm = λ v h. rw (full .cm v (omega arith)) (cmAt-range job (sound .costs) v);
+        cd = λ v h. rw (full .cd v (omega arith)) (cdAt-range job (sound .costs) v);
+        rd = λ v h. rw (full .rd v (omega arith)) (omega (arith, rdAt-range job (sound .costs) v));
+        rm = λ v h. rw (full .rm v (omega arith)) (rmAt-range job (sound .costs) v);
+      }
+
+  table-same : Same (job .tasks) (chainIn t) (chainOf job)
+  unfolding chainIn chainOf
+  table-same =
+      record {
+        allowed = λ u v a b. allowed-as u v a b (stretchAllowed job u v) refl;
+        stretch =
+            λ u v m d Q' M' x y a b.
+            rw (S-factors job u v m d Q' M', full .pairs u v a b, full .rd d (omega arith), full .rm m (omega arith));
+        cm = λ v a b. full .cm v (omega arith);
+        cd = λ v a b. full .cd v (omega arith);
+      }
+
+  pub table-of : TableOf job t
+  table-of = record { bounded = table-bounded; same = table-same }

@@ -1,0 +1,160 @@
+-- The plan's promise leaves one answer and one buffer, and pricing the plan's marks gives the plan's own answer.
+-- Assumes nothing.
+use Prim.Native.Nat.{ℕ, suc, _≤_, _<_}
+use mathlib.Core.Path.{_≡_, refl, sym, _∙_}
+use mathlib.Core.List.{List}
+use mathlib.Core.Logic.{_⊎_, inl, inr}
+use native.Mathlib.Decide.{decLe}
+use native.Mathlib.Nat.{eq-zero-or-pos}
+use native.Mathlib.Omega.{arith}
+use lib.ListN.{length, take, drop, take-append-drop}
+use lib.Seq.{ext-getD, length-take-le}
+use Rattle.units.specs.Limits.{none}
+use Rattle.refusals.specs.Numbers
+use Rattle.refusals.specs.Answers.{accepted}
+use Rattle.refusals.specs.declared.Answer.{Answer}
+use Rattle.refusals.proofs.Answers.{answered-accepted, answer-same}
+use Rattle.chain.specs.Chain.{Chain}
+use Rattle.chain.specs.Working.Search.{Rising, leastD}
+use Rattle.chain.proofs.Theorems.{plan-is-determined}
+use Rattle.sheet.specs.Layout.{tasks}
+use Rattle.sheet.specs.Reading.{jobOf, sheetRefusal}
+use Rattle.sheet.proofs.Readings.{sheet-layout, sheet-sound}
+use Rattle.sheet.proofs.Sections.{layout-tasks}
+use Rattle.job.specs.Job.{taskLimit}
+use Rattle.marks.specs.Marks.{marksOf}
+use Rattle.costs.specs.Stretch.{chainOf, timeOf}
+use Rattle.costs.proofs.Settings.{setting-checks}
+use Rattle.costs.proofs.Stretches.{S-rises}
+use Rattle.pricing.specs.Price.{priceOf}
+use Rattle.pricing.proofs.Prices.{slow-passes, price-time}
+use Rattle.planning.specs.Promise.{AllSlow, Refused, Planned, PlansChain, PlansChecked, AnswerSays, Plans}
+use Rattle.planning.proofs.Promises.{slow-all, slow-none}
+
+-- whether every allowed setting is too slow is decided by the search's least time
+slow-decided : (c : Chain) → Rising c → (n : ℕ) → 0 < n → Dec (AllSlow c n)
+slow-decided c rises n h = go (decLe none (leastD c none n))
+  where
+    go : Dec (none ≤ leastD c none n) → Dec (AllSlow c n)
+    go (yes l) = yes (slow-all c rises n h l)
+    go (no l) = no (slow-none c rises n h (omega arith))
+
+-- checks, a chain and a buffer alone decide which case of the promise it is: one refusal, or the plan
+module _ (refusal : ℕ) (c : Chain) (rises : Rising c) (n : ℕ) (some : refusal ≡ 0 → 0 < n) (before : List ℕ) (P : Type 0)
+    (refused : (number : ℕ) → 0 < number → ((after : List ℕ) (r : Answer) → PlansChecked refusal c n before after r → Refused number before after r) → P)
+    (planned : refusal ≡ 0 → n ≤ length before → ((after : List ℕ) (r : Answer) → PlansChecked refusal c n before after r → Planned c n before after r) → P) where
+  by-speed : refusal ≡ 0 → n ≤ length before → Dec (AllSlow c n) → P
+  by-speed z h (yes a) = refused Numbers.tooSlow (omega arith) (λ after r p. p .plans z h .slow a)
+  by-speed z h (no a) = planned z h (λ after r p. p .plans z h .planned a)
+
+  by-room : refusal ≡ 0 → Dec (n ≤ length before) → P
+  by-room z (yes h) = by-speed z h (slow-decided c rises n (some z))
+  by-room z (no h) = refused Numbers.shortBuffer (omega arith) (λ after r p. p .short z (omega arith))
+
+  by-checks : (refusal ≡ 0) ⊎ (0 < refusal) → P
+  by-checks (inl z) = by-room z (decLe n (length before))
+  by-checks (inr h) = refused refusal h (λ after r p. p .checked h)
+
+  by-case : P
+  by-case = by-checks (eq-zero-or-pos refusal)
+
+refused-once : (number : ℕ) (before a b : List ℕ) (r q : Answer) → Refused number before a r → Refused number before b q → (r ≡ q) × (a ≡ b)
+refused-once number before a b r q f g =
+    (answer-same r q (f .numbered ∙ sym (g .numbered)) (f .no-time ∙ sym (g .no-time)), f .untouched ∙ sym (g .untouched))
+
+-- two lists of n marks that are the same marks are the same list
+list-same : (n : ℕ) (a b : List ℕ) → length a ≡ n → length b ≡ n → ((v : ℕ) → 0 < v → v ≤ n → marksOf a v ≡ marksOf b v) → a ≡ b
+list-same n a b h k same = ext-getD 0 a b (h ∙ sym k) (λ i l. same (suc i) (omega arith) (omega arith))
+
+module _ (c : Chain) (n : ℕ) (before : List ℕ) (room : n ≤ length before) where
+  front-length : (after : List ℕ) (r : Answer) → Planned c n before after r → length (take n after) ≡ n
+  front-length after r p = length-take-le n after (omega (arith, p .long))
+
+  planned-once : (a b : List ℕ) (r q : Answer) → Planned c n before a r → Planned c n before b q → (r ≡ q) × (a ≡ b)
+  planned-once a b r q f g =
+      (answer-same r q (f .numbered ∙ sym (g .numbered)) (same .0), sym (take-append-drop n a) ∙ rw (front, rest) (take-append-drop n b))
+    where
+      same : (r .time ≡ q .time) × ((v : ℕ) → 0 < v → v ≤ n → marksOf (take n a) v ≡ marksOf (take n b) v)
+      same = plan-is-determined c n (marksOf (take n a)) (marksOf (take n b)) (r .time) (q .time) (f .plan) (g .plan)
+
+      front : take n a ≡ take n b
+      front = list-same n (take n a) (take n b) (front-length a r f) (front-length b q g) (same .1)
+
+      rest : drop n a ≡ drop n b
+      rest = f .later ∙ sym (g .later)
+
+-- checks, a chain and a lent buffer have one answer and one buffer afterwards, byte for byte
+pub checked-once : (refusal : ℕ) (c : Chain) → Rising c → (n : ℕ) → (refusal ≡ 0 → 0 < n) → (before a b : List ℕ) (r q : Answer)
+    → PlansChecked refusal c n before a r → PlansChecked refusal c n before b q → (r ≡ q) × (a ≡ b)
+checked-once refusal c rises n some before a b r q f g =
+    by-case refusal c rises n some before ((r ≡ q) × (a ≡ b))
+    (λ number h is. refused-once number before a b r q (is a r f) (is b q g))
+    (λ z h is. planned-once c n before h a b r q (is a r f) (is b q g))
+
+-- a sheet that passes checks 1 to 8 has a task
+some-task : (s : List ℕ) → sheetRefusal s ≡ 0 → 0 < jobOf s .tasks
+some-task s z = sheet-sound s z .some-task
+
+-- a sheet and a lent buffer have one answer and one buffer afterwards, byte for byte
+pub plan-once : (s before a b : List ℕ) (r q : Answer) → Plans s before a r → Plans s before b q → (r ≡ q) × (a ≡ b)
+plan-once s before a b r q f g =
+    checked-once (sheetRefusal s) (chainOf (jobOf s)) (S-rises (jobOf s)) (jobOf s .tasks) (some-task s) before a b r q f g
+
+-- the promise read from the answer
+chain-says : (c : Chain) → Rising c → (n : ℕ) → 0 < n → (before after : List ℕ) (r : Answer) → PlansChain c n before after r → AnswerSays c n before after r
+chain-says c rises n h before after r p = go (slow-decided c rises n h)
+  where
+    go : Dec (AllSlow c n) → AnswerSays c n before after r
+    go (yes a) =
+        let q = p .slow a in
+        record {
+          slow = (λ _. a, λ _. q .numbered);
+          some-plan = (λ e. absurd (omega (arith, q .numbered)), λ has. absurd (omega (arith, a (has .marks) (has .plan .allowed), has .plan .time, has .in-time)));
+          planned = λ e. absurd (omega (arith, q .numbered));
+          no-other = inl (q .numbered);
+        }
+    go (no a) =
+        let q = p .planned a in
+        record {
+          slow = (λ e. absurd (omega (arith, q .numbered)), λ b. absurd (a b));
+          some-plan = (
+            λ _. record { marks = marksOf (take n after); time = r .time; plan = q .plan; in-time = q .in-time },
+            λ _. q .numbered,
+          );
+          planned = λ _. q;
+          no-other = inr (q .numbered);
+        }
+
+-- 'where the buffer holds the marks, the plan says too slow exactly when every allowed setting takes more than 2^34 - 1 ticks, and otherwise gives a result'
+pub plan-says : (s before after : List ℕ) (r : Answer) → Plans s before after r → sheetRefusal s ≡ 0 → jobOf s .tasks ≤ length before
+    → AnswerSays (chainOf (jobOf s)) (jobOf s .tasks) before after r
+plan-says s before after r p z h =
+    chain-says (chainOf (jobOf s)) (S-rises (jobOf s)) (jobOf s .tasks) (some-task s z) before after r (p .plans z h)
+
+planned-price : (s before after : List ℕ) (r : Answer) → sheetRefusal s ≡ 0 → jobOf s .tasks ≤ length before
+    → Planned (chainOf (jobOf s)) (jobOf s .tasks) before after r → priceOf s (take (jobOf s .tasks) after) ≡ r
+unfolding priceOf timeOf
+planned-price s before after r z h p =
+    sym (answered-accepted (timeOf (jobOf s) l)
+    (slow-passes (timeOf (jobOf s) l) (omega (arith, p .plan .time, p .in-time))
+    ∙ price-time s l z (setting-checks (jobOf s) l (front-length (chainOf (jobOf s)) (jobOf s .tasks) before h after r p) (p .plan .allowed)))
+    (sym (p .plan .time)))
+    ∙ answer-same (accepted (r .time)) r (sym (p .numbered)) refl
+  where
+    l : List ℕ
+    l = take (jobOf s .tasks) after
+
+-- where the answer is a plan, the price of its marks on the same sheet is that very answer
+pub plan-prices : (s before after : List ℕ) (r : Answer) → Plans s before after r → r .number ≡ 0 → priceOf s (take (jobOf s .tasks) after) ≡ r
+plan-prices s before after r p e =
+    by-case (sheetRefusal s) (chainOf (jobOf s)) (S-rises (jobOf s)) (jobOf s .tasks) (some-task s) before (priceOf s (take (jobOf s .tasks) after) ≡ r)
+    (λ number h is. absurd (omega (arith, is after r p .numbered)))
+    (λ z h is. planned-price s before after r z h (is after r p))
+
+-- a result is given only to a sheet that passes checks 1 to 8, so its task count is in range
+pub plan-tasks : (s before after : List ℕ) (r : Answer) → Plans s before after r → r .number ≡ 0 → tasks s ≤ taskLimit
+plan-tasks s before after r p e = go (eq-zero-or-pos (sheetRefusal s))
+  where
+    go : (sheetRefusal s ≡ 0) ⊎ (0 < sheetRefusal s) → tasks s ≤ taskLimit
+    go (inl z) = layout-tasks s (sheet-layout s z) .few-tasks
+    go (inr h) = absurd (omega (arith, p .checked h .numbered))

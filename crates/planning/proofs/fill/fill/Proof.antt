@@ -1,0 +1,86 @@
+-- `planning::fill::fill` meets its contract. The loop's invariant: the stretches of the near ends before u have their factors. The measure is what is left of
+-- the near ends. Assumes nothing.
+use Prim.Native.Nat.{_+_, _-_, _≤_}
+use mathlib.Core.Path.{_≡_, sym, _∙_}
+use native.Mathlib.Omega.{arith}
+use Rattle.planning.specs.Working.Fill.{PairsTo}
+use Rattle.planning.proofs.Fills.{pairs-none, table-of}
+use Rattle.planning.proofs.fill.fill.Statement.{statement}
+use Rattle.planning.proofs.fill.fill.Tie as tie
+use borrow.Author.Needs.{needs}
+
+abbrev Inv-loop : tie.InvT-loop
+Inv-loop t₀ job n sums u₀ t u = (u ≤ job .tasks) × PairsTo job u (u + 1) t
+
+abbrev μ-loop : tie.MeasureT-loop
+μ-loop t₀ job n sums u₀ t u = job .tasks - u
+
+totals-requires : tie.Need-totals-requires Inv-loop μ-loop
+totals-requires c κs =
+    let pre = c .before .pre in
+    pre .sound
+
+loop-holds : tie.Need-loop-holds Inv-loop μ-loop
+loop-holds c =
+    let pre = c .before .before .pre in
+    (omega arith, pairs-none _ _ (pre .long))
+
+slice-aggregate-fill-pairs : tie.Need-slice-aggregate-fill-pairs Inv-loop μ-loop
+slice-aggregate-fill-pairs c = search needs
+
+fill-pairs-requires : tie.Need-fill-pairs-requires Inv-loop μ-loop
+fill-pairs-requires c κs =
+    let pre = c .before .before .before .before .before .before .pre in
+    let totals = c .before .before .before .before .totals in
+    let loop = c .before .before .before .loop in
+    record { sound = pre .sound; totals = totals .ensures; near = omega arith; filled = loop .inv .1 }
+
+add-u : tie.Need-add-u Inv-loop μ-loop
+add-u c =
+    let pre = c .before .before .before .before .before .before .before .before .before .pre in
+    omega (arith, pre .sound .few-tasks)
+
+loop-less : tie.Need-loop-less Inv-loop μ-loop
+loop-less c = omega arith
+
+loop-again : tie.Need-loop-again Inv-loop μ-loop
+loop-again c =
+    let loop = c .before .before .before .before .before .before .loop in
+    let fill-pairs = c .before .before .fill-pairs in
+    (omega arith, let e : loop .u + 1 + 1 ≡ loop .u + 2 = omega arith in rw e (fill-pairs .ensures))
+
+fill-costs-requires : tie.Need-fill-costs-requires Inv-loop μ-loop
+fill-costs-requires c κs =
+    let loop = c .before .before .loop in
+    let args = c .before .before .before .before .before .args in
+    let pre = c .before .before .before .before .before .pre in
+    let e : loop .u ≡ args .job .tasks = omega arith in record { sound = pre .sound; filled = rw e at (loop .inv .1) }
+
+same-length : tie.Need-same-length Inv-loop μ-loop
+same-length c =
+    let fill-costs = c .before .before .fill-costs in
+    let pre = c .before .before .before .before .before .before .before .before .pre in
+    fill-costs .ensures .long ∙ sym (pre .long)
+
+returns : tie.Need-returns Inv-loop μ-loop
+returns c =
+    let pre = c .before .before .before .before .before .before .before .before .pre in
+    let fill-costs = c .before .before .fill-costs in
+    table-of _ (pre .sound) _ (fill-costs .ensures)
+
+pub fill-spec : {M : Type 1} → statement M
+fill-spec =
+    tie.close
+    (tie.spec
+    Inv-loop
+    μ-loop
+    totals-requires
+    loop-holds
+    slice-aggregate-fill-pairs
+    fill-pairs-requires
+    add-u
+    loop-less
+    loop-again
+    fill-costs-requires
+    same-length
+    returns)

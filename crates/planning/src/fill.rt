@@ -1,0 +1,83 @@
+// Fills the search's table with the chain of a job: the factors of each stretch, a near end and a far end, then the costs of each position.
+ghost use Prim.Native.Nat.{_+_};
+ghost use Rattle.job.specs.Working.Sound.{Sound};
+ghost use Rattle.planning.specs.Working.Fill.{Totals, PairsTo, TableTo, TableOf, ReadyForPairs, ReadyForCosts, ReadyToFill};
+use costs::cd_at;
+use costs::cm_at;
+use costs::rd_at;
+use costs::rm_at;
+use costs::stretch_factors;
+use costs::v_at;
+use job::Job;
+use job::POSITIONS;
+use search::table::Costs;
+use search::table::put_costs;
+use search::table::put_pair;
+
+// The weight up to each position.
+fn totals(job: Job) -> [u64; POSITIONS]
+    requires { ⌜ Sound job ⌝ }
+    ensures { λ r. ⌜ Totals (job .weights) (job .tasks) r ⌝ }
+{
+    let n = job.tasks;
+    let weights = job.weights;
+    let mut sums = [0u64; POSITIONS];
+    let mut j: usize = 0;
+    while j < n {
+        sums[j + 1] = sums[j] + (weights[j] as u64);
+        j += 1;
+    }
+    sums
+}
+
+// The stretches from the near end u to each far end.
+fn fill_pairs(t: &mut [u32], job: Job, sums: &[u64], u: usize)
+    requires { ⌜ ReadyForPairs job (now sums) u (now t) ⌝ }
+    ensures { λ _. ⌜ PairsTo job (u + 1) (u + 2) (now (t .exit)) ⌝ }
+{
+    let job = job;
+    let n = job.tasks;
+    let platform = job.platform;
+    let mut v = u + 1;
+    while v <= n {
+        let f = stretch_factors(platform, sums[v] - sums[u], v_at(job, v));
+        put_pair(t, u, v, f);
+        v += 1;
+    }
+}
+
+// The costs of each position.
+fn fill_costs(t: &mut [u32], job: Job)
+    requires { ⌜ ReadyForCosts job (now t) ⌝ }
+    ensures { λ _. ⌜ TableTo job (job .tasks + 1) (now (t .exit)) ⌝ }
+{
+    let job = job;
+    let n = job.tasks;
+    let mut v: usize = 0;
+    while v <= n {
+        let costs = Costs {
+            cm: cm_at(job, v),
+            cd: cd_at(job, v),
+            rd: rd_at(job, v),
+            rm: rm_at(job, v),
+        };
+        put_costs(t, v, costs);
+        v += 1;
+    }
+}
+
+// The chain of the job.
+pub fn fill(t: &mut [u32], job: Job)
+    requires { ⌜ ReadyToFill job (now t) ⌝ }
+    ensures { λ _. ⌜ TableOf job (now (t .exit)) ⌝ }
+{
+    let job = job;
+    let n = job.tasks;
+    let sums = totals(job);
+    let mut u: usize = 0;
+    while u < n {
+        fill_pairs(t, job, &sums, u);
+        u += 1;
+    }
+    fill_costs(t, job);
+}

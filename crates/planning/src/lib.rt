@@ -1,0 +1,79 @@
+// The plan of a job sheet: the cheapest marks, written to a buffer that the caller lends, and their time, or the first refusal that holds.
+ghost use mathlib.Core.Path.{_≡_};
+ghost use mathlib.Core.List.{_++_};
+ghost use lib.ListN.{take, drop};
+ghost use Rattle.costs.specs.Stretch.{chainOf};
+ghost use Rattle.search.specs.Working.Table.{chainIn};
+ghost use Rattle.planning.specs.Promise.{Plans, PlansChain};
+ghost use Rattle.planning.specs.Working.Ready.{ReadyToCopy, ReadyForChain, ReadyForJob};
+use job::Job;
+use job::POSITIONS;
+use job::TASK_LIMIT;
+use refusals::Answer;
+use refusals::SHORT_BUFFER;
+use refusals::TOO_SLOW;
+use refusals::accepted;
+use refusals::refused;
+use search::rows::disk_row;
+use search::table::TABLE_LENGTH;
+use search::walk::plan_marks;
+use sheet::read::read_job;
+use units::NONE;
+
+mod fill;
+
+use fill::fill;
+
+// The first n marks go to the front of the buffer, and nothing else is written.
+fn copy_marks(buffer: &mut [u8], marks: [u8; TASK_LIMIT], n: usize)
+    requires { ⌜ ReadyToCopy (now buffer) n ⌝ }
+    ensures { λ _. ⌜ now (buffer .exit) ≡ take n marks ++ drop n (now (buffer .entry)) ⌝ }
+{
+    let mut j: usize = 0;
+    while j < n {
+        buffer[j] = marks[j];
+        j += 1;
+    }
+}
+
+// The plan of the chain that the table holds, of n tasks, for a buffer that holds its marks. The time is known to fit before a byte is written.
+fn plan_chain(t: &[u32], n: usize, buffer: &mut [u8]) -> Answer
+    requires { ⌜ ReadyForChain (now t) n (now buffer) ⌝ }
+    ensures { λ r. ⌜ PlansChain (chainIn (now (t .entry))) n (now (buffer .entry)) (now (buffer .exit)) r ⌝ }
+{
+    let mut time = [NONE; POSITIONS];
+    let mut backs = [0usize; POSITIONS];
+    disk_row(&mut time, &mut backs, t, n);
+    let least = time[n];
+    if NONE <= least {
+        return refused(TOO_SLOW);
+    }
+    let marks = plan_marks(t, &backs, n);
+    copy_marks(buffer, marks, n);
+    accepted(least)
+}
+
+// The plan of a job for a buffer that holds its marks.
+fn plan_job(job: Job, buffer: &mut [u8]) -> Answer
+    requires { ⌜ ReadyForJob job (now buffer) ⌝ }
+    ensures { λ r. ⌜ PlansChain (chainOf job) (job .tasks) (now (buffer .entry)) (now (buffer .exit)) r ⌝ }
+{
+    let mut table = [0u32; TABLE_LENGTH];
+    fill(&mut table, job);
+    plan_chain(&table, job.tasks, buffer)
+}
+
+// The plan of the sheet, or the first of checks 1 to 8, 11 and 13 that holds.
+pub fn plan(s: &[u8], buffer: &mut [u8]) -> Answer
+    ensures { λ r. ⌜ Plans (now (s .entry)) (now (buffer .entry)) (now (buffer .exit)) r ⌝ }
+{
+    let reading = read_job(s);
+    if reading.number != 0 {
+        return refused(reading.number);
+    }
+    let job = reading.job;
+    if buffer.len() < job.tasks {
+        return refused(SHORT_BUFFER);
+    }
+    plan_job(job, buffer)
+}

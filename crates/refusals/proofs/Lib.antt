@@ -1,0 +1,3 @@
+-- The laws of refusals that the crates above cite.
+pub mod Refusals
+pub mod Answers

@@ -1,5 +1,0 @@
-pub mod Run
-pub mod Sound
-pub mod Start
-pub mod Log
-pub mod History

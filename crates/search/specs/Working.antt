@@ -1,0 +1,4 @@
+-- Definitions that proofs work with and that no reader has to believe.
+pub mod Table
+pub mod Rows
+pub mod Walk

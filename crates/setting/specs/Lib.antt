@@ -1,5 +1,0 @@
-pub mod Chain
-pub mod Time
-pub mod Plan
-pub mod Search
-pub mod Equations

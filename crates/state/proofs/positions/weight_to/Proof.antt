@@ -1,0 +1,70 @@
+-- `state::positions::weight_to` meets its contract.
+-- The loop's invariant: the sum is the total of the weights passed, each below 2^32, so that it cannot wrap. The measure is what is left of the tasks. Assumes
+-- nothing.
+use Prim.Native.Nat.{_-_, _*_, _≤_, _^_}
+use mathlib.Core.Path.{_≡_, refl}
+use native.Mathlib.Omega.{arith}
+use Rattle.job.specs.Job.{total}
+use Rattle.job.proofs.Weights.{total-more}
+use Rattle.state.proofs.positions.weight_to.Statement.{statement}
+use Rattle.state.proofs.positions.weight_to.Tie as tie
+use borrow.Author.Needs.{needs}
+
+abbrev Inv-loop : tie.InvT-loop
+Inv-loop n weights sum₀ j₀ sum j = (j ≤ n) × (sum ≡ total weights j) × (sum ≤ j * 2 ^ 32)
+
+abbrev μ-loop : tie.MeasureT-loop
+μ-loop n weights sum₀ j₀ sum j = n - j
+
+loop-holds : tie.Need-loop-holds Inv-loop μ-loop
+unfolding total
+loop-holds c = (omega arith, refl, omega arith)
+
+mul-wide : tie.Need-mul-wide Inv-loop μ-loop
+mul-wide c = omega arith
+
+array-read-wide : tie.Need-array-read-wide Inv-loop μ-loop
+array-read-wide c = omega arith
+
+wide-requires : tie.Need-wide-requires Inv-loop μ-loop
+wide-requires c κs = search needs
+
+add-sum : tie.Need-add-sum Inv-loop μ-loop
+add-sum c =
+    let wide = c .wide in
+    omega (arith, wide .ensures .1)
+
+add-j : tie.Need-add-j Inv-loop μ-loop
+add-j c = omega arith
+
+loop-less : tie.Need-loop-less Inv-loop μ-loop
+loop-less c = omega arith
+
+loop-again : tie.Need-loop-again Inv-loop μ-loop
+loop-again c =
+    let args = c .before .before .before .args in
+    let loop = c .before .before .loop in
+    let wide = c .wide in
+    (omega arith, omega (arith, total-more (args .t1) (loop .j), wide .ensures .0), omega (arith, wide .ensures .1))
+
+returns : tie.Need-returns Inv-loop μ-loop
+returns c =
+    let loop = c .before .loop in
+    let args = c .before .before .args in
+    let e : loop .j ≡ args .n = omega arith in rw (← e) (loop .inv .1)
+
+pub weight-to-spec : {M : Type 1} → statement M
+weight-to-spec =
+    tie.close
+    (tie.spec
+    Inv-loop
+    μ-loop
+    loop-holds
+    mul-wide
+    array-read-wide
+    wide-requires
+    add-sum
+    add-j
+    loop-less
+    loop-again
+    returns)

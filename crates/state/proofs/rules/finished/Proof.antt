@@ -1,0 +1,20 @@
+-- `state::rules::finished` meets its contract. The two tests in their order. Assumes nothing.
+use borrow.Author.Tests.{eq-eqb, ne-eqb}
+use Rattle.state.specs.State.{finished}
+use Rattle.state.proofs.rules.finished.Statement.{statement}
+use Rattle.state.proofs.rules.finished.Tie as tie
+
+returns : tie.Need-returns
+unfolding finished
+returns c =
+    let if1 = c .if1 in
+    rw (ne-eqb _ _ (if1 .taken))
+
+returns-2 : tie.Need-returns-2
+unfolding finished
+returns-2 c =
+    let if1 = c .before .if1 in
+    rw (eq-eqb _ _ (if1 .left))
+
+pub finished-spec : {M : Type 1} → statement M
+finished-spec = tie.close (tie.spec returns returns-2)
