@@ -4,6 +4,9 @@ use job::TASK_LIMIT;
 use libc::STDOUT_FILENO;
 use sheet::SHEET_ROOM;
 
+// More than the log of the example has.
+const LOG_ROOM: usize = 100;
+
 // The bytes of a file at the front of the buffer, and how many; one that cannot be read has none.
 fn read_file(name: &[u8], buffer: &mut [u8]) -> usize
     ensures { λ r. ⌜ Counts r (now (buffer .exit)) ⌝ }
@@ -49,7 +52,7 @@ fn follow(sheet: &[u8], log: &[u8]) {
 fn run_of_a() {
     let mut sheet = [0u8; SHEET_ROOM];
     let n = read_file(b"a", &mut sheet);
-    let mut log = [0u8; 64];
+    let mut log = [0u8; LOG_ROOM];
     let k = read_file(b"log", &mut log);
     follow(&sheet[..n], &log[..k]);
 }

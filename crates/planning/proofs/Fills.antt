@@ -28,7 +28,21 @@ use Rattle.costs.proofs.Ranges.{vAt-range, cmAt-range, cdAt-range, rdAt-range, 
 use Rattle.costs.proofs.Stretches.{S-factors, not-allowed}
 use Rattle.search.specs.Working.Table.{tableLength, cmStart, cdStart, rdStart, rmStart, entryOf, column, chainIn, putPair, putCosts, PairFits, Packable, Bounded}
 use Rattle.search.specs.declared.table.Costs.{Costs}
-use Rattle.search.proofs.Tables.{length-putPair, putPair-here, putPair-apart, length-putCosts, putCosts-pair, putCosts-cm, putCosts-cd, putCosts-rd, putCosts-rm, putCosts-cm-apart, putCosts-cd-apart, putCosts-rd-apart, putCosts-rm-apart}
+use Rattle.search.proofs.Tables.{
+  length-putPair,
+  putPair-here,
+  putPair-apart,
+  length-putCosts,
+  putCosts-pair,
+  putCosts-cm,
+  putCosts-cd,
+  putCosts-rd,
+  putCosts-rm,
+  putCosts-cm-apart,
+  putCosts-cd-apart,
+  putCosts-rd-apart,
+  putCosts-rm-apart,
+}
 use Rattle.planning.specs.Working.Fill.{Totals, EarlierPair, PairsTo, TableTo, TableOf}
 
 -- one total more

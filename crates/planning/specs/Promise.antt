@@ -44,7 +44,7 @@ pub record HasPlan (c : Chain) (n : ℕ) : Type 0 where
   pub plan : IsPlan c n marks time
   pub in-time : time ≤ timeLimit
 
--- the same read from the answer: 13 exactly when every allowed setting is too slow, 0 exactly when there is a plan, and then it is that plan; no other number
+-- what the number of such an answer says: 13 exactly when every allowed setting is too slow, 0 exactly when there is a plan, and then it is that plan; no other number
 pub record AnswerSays (c : Chain) (n : ℕ) (before after : List ℕ) (r : Answer) : Type 0 where
   pub slow : (r .number ≡ Numbers.tooSlow) ↔ AllSlow c n
   pub some-plan : (r .number ≡ Numbers.accepted) ↔ HasPlan c n

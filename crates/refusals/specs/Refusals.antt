@@ -31,7 +31,7 @@ unfoldable pub distinct : List Condition → Bool
 distinct [] = true
 distinct (c ∷ cs) = not (eqb (c .number) Numbers.accepted) && (not (has (c .number) cs) && distinct cs)
 
--- the same as a fact, which is computed for every list of this product
+-- the same as a fact, which is computed for each list of checks; a lookup's list alone gives 6 for two conditions, as document 01 says
 abbrev pub Numbered : List Condition → Type 0
 Numbered cs = distinct cs ≡ true
 

@@ -1,5 +1,6 @@
 // Rows of least times. A row is filled forward: each position that is reached offers its arrivals to the later ones, and the lesser time stays.
 // `time` has the least times and `backs` the earliest positions before, in fresh rows that the caller lends.
+// The walk and planning call these, with a table whose numbers are bounded, so that no product wraps.
 ghost use Prim.Native.Nat.{_+_};
 ghost use lib.ListN.{getD};
 ghost use Rattle.units.specs.Limits.{none};

@@ -1,4 +1,5 @@
-// The table that holds a chain: the factors of each pair of ends u < v, and the costs of each position.
+// The table that holds a chain: the factors of each pair of ends u < v, and the costs of each position. The crates that fill and search it call these,
+// with a table of its length and positions within it.
 ghost use mathlib.Core.Path.{_≡_};
 ghost use Prim.Native.Nat.{_<_};
 ghost use lib.ListN.{length, take, drop};

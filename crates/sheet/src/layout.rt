@@ -1,4 +1,4 @@
-// The layout of a sheet: where its sections lie, and checks 1 to 6.
+// The layout of a sheet: where its sections lie, and checks 1 to 6. A section is asked for by its index, 0 or 1, by this crate alone.
 ghost use mathlib.Core.Path.{_≡_};
 ghost use Prim.Native.Nat.{_+_, _<_, _^_};
 ghost use Rattle.refusals.specs.Refusals.{first};
