@@ -78,7 +78,7 @@ pub fn saves_paid(job: Job, mark: u8, v: usize) -> u64
     paid(pays.cm, cm_at(job, v)) + paid(pays.cd, cd_at(job, v))
 }
 
-// The growth sums of a stretch of this weight, whose far end costs `v` to verify. The caps of G and H keep each product below 2^64.
+// The growth sums of a stretch of this weight, whose far end costs `v` to verify. Weight and cost have passed check 7, and with the caps of G and H each product is below 2^64.
 pub fn stretch_factors(p: Platform, weight: u64, v: u64) -> Factors
     requires { ⌜ ReadyForFactors weight v ⌝ }
     ensures { λ r. ⌜ r ≡ factorsOf p weight v ⌝ }

@@ -66,7 +66,7 @@ fn fill_costs(t: &mut [u32], job: Job)
     }
 }
 
-// The chain of the job.
+// The chain of the job. Planning alone calls this, with a table of the search's length and a job that has passed checks 3, 7 and 8.
 pub fn fill(t: &mut [u32], job: Job)
     requires { ⌜ ReadyToFill job (now t) ⌝ }
     ensures { λ _. ⌜ TableOf job (now (t .exit)) ⌝ }

@@ -11,7 +11,7 @@ pub const EXPONENT_LIMIT: u64 = 67_108_864;
 // 2^34, one more than the longest time that is not too slow: such a time, and any above it, is none.
 pub const NONE: u64 = 1 << 34;
 
-// up(p) of document 01, for every p that leaves room for the rounding.
+// up(p) of document 01, for every p that leaves room for the rounding; the caps of the crates above keep every product so.
 pub fn rounded_up(p: u64) -> u64
     requires { ⌜ p + unit ≤ 2 ^ 64 ⌝ }
     ensures { λ r. ⌜ r ≡ up p ⌝ }
