@@ -66,6 +66,12 @@ costs-bounded p e =
       rm = ltb-false costLimit (p .rm) (e4 .1);
     }
 
+-- check 7 passes where costs and weights are in range
+pub value-passes : (job : Job) → badCost (job .platform) ≡ false
+    → (some (job .tasks) (badWeight (job .weights)) || ltb costLimit (total (job .weights) (job .tasks))) ≡ false → badValue job ≡ false
+unfolding badValue
+value-passes job costs weights = rw costs weights
+
 -- what passing checks 7 and 8 means
 pub record ValuesPassed (job : Job) : Type 0 where
   pub value : badValue job ≡ false

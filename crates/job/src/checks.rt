@@ -3,12 +3,14 @@ ghost use mathlib.Core.Path.{_≡_};
 ghost use mathlib.Core.Bool.{_||_, false};
 ghost use Prim.Native.Nat.{_+_, _<_, _≤_};
 ghost use lib.Dec.{ltb, eqb};
+ghost use lib.ListN.{length};
 ghost use Rattle.units.specs.Limits.{costLimit};
 ghost use Rattle.lists.specs.Lists.{some};
 ghost use Rattle.refusals.specs.Refusals.{first};
 ghost use Rattle.job.specs.Job.{taskLimit, total};
-ghost use Rattle.job.specs.Working.Sound.{ReadyForTasks};
-ghost use Rattle.job.specs.Checks.{badCount, badCost, badWeight, badValue, badTask, jobConditions};
+ghost use Rattle.job.specs.Working.Sound.{ReadyForWeights};
+ghost use Rattle.job.specs.Working.Heaviest.{heaviest};
+ghost use Rattle.job.specs.Checks.{badCount, badCost, badWeight, jobConditions};
 use crate::Job;
 use crate::Platform;
 use crate::TASK_LIMIT;
@@ -52,9 +54,9 @@ fn bad_weight(w: u32) -> bool
 }
 
 // A weight or the total of weights outside its range. A weight is tested before it joins the total, so that no sum can wrap.
-fn bad_weights(weights: [u32; TASK_LIMIT], n: usize) -> bool
-    requires { ⌜ n ≤ taskLimit ⌝ }
-    ensures { λ r. ⌜ r ≡ (some n (badWeight weights) || ltb costLimit (total weights n)) ⌝ }
+fn bad_weights(weights: &[u32], n: usize) -> bool
+    requires { ⌜ ReadyForWeights n (now weights) ⌝ }
+    ensures { λ r. ⌜ r ≡ (some n (badWeight (now (weights .entry))) || ltb costLimit (total (now (weights .entry)) n)) ⌝ }
 {
     let mut sum: u64 = 0;
     let mut j: usize = 0;
@@ -69,45 +71,37 @@ fn bad_weights(weights: [u32; TASK_LIMIT], n: usize) -> bool
     TOTAL_LIMIT < sum
 }
 
-fn bad_value(job: Job) -> bool
-    requires { ⌜ job .tasks ≤ taskLimit ⌝ }
-    ensures { λ r. ⌜ r ≡ badValue job ⌝ }
+// The weight of the heaviest of the first n tasks.
+fn heaviest(weights: &[u32], n: usize) -> u32
+    requires { ⌜ n ≤ length (now weights) ⌝ }
+    ensures { λ r. ⌜ r ≡ heaviest (now (weights .entry)) n ⌝ }
 {
-    if bad_cost(job.platform) {
-        return true;
-    }
-    let weights = job.weights;
-    bad_weights(weights, job.tasks)
-}
-
-// Some task alone is not allowed as a stretch.
-fn bad_task(job: Job) -> bool
-    requires { ⌜ ReadyForTasks job ⌝ }
-    ensures { λ r. ⌜ r ≡ badTask job ⌝ }
-{
-    let n = job.tasks;
-    let weights = job.weights;
-    let platform = job.platform;
+    let mut most: u32 = 0;
     let mut j: usize = 0;
     while j < n {
-        let w = weights[j] as u64;
-        if !is_allowed(platform, w) {
-            return true;
+        let w = weights[j];
+        if most < w {
+            most = w;
         }
         j += 1;
     }
-    false
+    most
 }
 
-// The first of checks 7 and 8 that holds, or 0. The task count has passed check 3, so that it is a place of the array.
+// The first of checks 7 and 8 that holds, or 0: where some task alone is not allowed as a stretch, the heaviest is not. The task count has passed check 3, so
+// that it is a place of the array.
 pub fn job_refusal(job: Job) -> u64
     requires { ⌜ job .tasks ≤ taskLimit ⌝ }
     ensures { λ r. ⌜ r ≡ first (jobConditions job) ⌝ }
 {
-    if bad_value(job) {
+    if bad_cost(job.platform) {
         return BAD_VALUE;
     }
-    if bad_task(job) {
+    let weights = job.weights;
+    if bad_weights(&weights[..], job.tasks) {
+        return BAD_VALUE;
+    }
+    if !is_allowed(job.platform, heaviest(&weights[..], job.tasks) as u64) {
         return BAD_TASK;
     }
     0

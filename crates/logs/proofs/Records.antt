@@ -2,18 +2,20 @@
 -- Assumes nothing.
 use Prim.Native.Nat.{ℕ, zero, suc, _+_, _-_, _*_, _≤_, _<_}
 use mathlib.Core.Path.{_≡_, sym, _∙_}
+use mathlib.Core.Bool.{true, false}
 use mathlib.Core.List.{List}
 use mathlib.Core.Logic.{_⊎_, inl, inr}
 use native.Mathlib.Nat.{eq-or-lt-of-le, le-of-suc-le-suc}
 use native.Mathlib.Numerals.{add-one}
 use native.Mathlib.Omega.{arith}
-use borrow.Author.Tests.{ne-eqb}
+use borrow.Author.Tests.{eq-eqb, ne-eqb}
 use lib.ListN.{length, take, drop, length-drop}
 use lib.Seq.{take-all}
-use Rattle.following.specs.Run.{accepted, refused}
+use Rattle.refusals.specs.Numbers
+use Rattle.following.specs.Run.{stepOf, accepted, refused}
 use Rattle.state.specs.declared.Run.{Run}
 use Rattle.following.specs.declared.Stepped.{Stepped}
-use Rattle.logs.specs.Log.{recordLength, recordAt, recorded, applied, orBefore}
+use Rattle.logs.specs.Log.{recordLength, recordAt, badRecord, eventOf, recorded, applied, orBefore}
 
 module _ (log : List ℕ) (i : ℕ) where
   pub record-rest : length log - recordLength * i < recordLength → take (length log - recordLength * i) (drop (recordLength * i) log) ≡ recordAt log i
@@ -32,6 +34,15 @@ recorded-refused : (s : Stepped) (r : List ℕ) → (s .number ≡ 0 → ⊥) �
 unfolding recorded
 recorded-refused s r h = rw (ne-eqb _ _ h)
 
+-- one record more, bad or an event
+pub bad-recorded : (run : Run) (r : List ℕ) → badRecord r ≡ true → refused Numbers.badRecord run ≡ recorded (accepted run) r
+unfolding recorded
+bad-recorded run r e = rw e
+
+pub event-recorded : (run : Run) (r : List ℕ) → badRecord r ≡ false → stepOf run (eventOf r) ≡ recorded (accepted run) r
+unfolding recorded
+event-recorded run r e = rw e
+
 pub accepted-is : (a : Stepped) → a .number ≡ 0 → a ≡ accepted (a .run)
 accepted-is a e = rw (← e)
 
@@ -48,19 +59,16 @@ module _ (run : Run) (log : List ℕ) where
 
   -- the answer to record k, where the records before it are accepted
   module _ (k : ℕ) (state : Run) (before : applied run log k ≡ accepted state) (a : Stepped) (is : a ≡ recorded (accepted state) (recordAt log k)) where
-    one-more : applied run log (k + 1) ≡ a
+    pub applied-more : applied run log (k + 1) ≡ a
     unfolding applied
-    one-more = rw (add-one k, before) (sym is)
-
-    pub applied-more : a .number ≡ 0 → applied run log (k + 1) ≡ accepted (a .run)
-    applied-more e = one-more ∙ accepted-is a e
+    applied-more = rw (add-one k, before) (sym is)
 
     pub applied-stops : (a .number ≡ 0 → ⊥) → (n : ℕ) → k < n → refused (a .number) run ≡ orBefore run (applied run log n)
     unfolding orBefore
     applied-stops r n h =
-        let e : applied run log n ≡ a = applied-stays (k + 1) n (omega arith) (rw one-more r) ∙ one-more in
+        let e : applied run log n ≡ a = applied-stays (k + 1) n (omega arith) (rw applied-more r) ∙ applied-more in
         rw (e, ne-eqb _ _ r)
 
-  pub applied-all : (n : ℕ) (state : Run) → applied run log n ≡ accepted state → accepted state ≡ orBefore run (applied run log n)
+  pub applied-all : (n : ℕ) (a : Stepped) → applied run log n ≡ a → a .number ≡ 0 → a ≡ orBefore run (applied run log n)
   unfolding orBefore
-  applied-all n state e = rw e
+  applied-all n a e z = rw (e, eq-eqb _ _ z)

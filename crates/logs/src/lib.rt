@@ -1,8 +1,7 @@
 // The log of a run: records of 5 bytes, read and applied in turn.
 ghost use mathlib.Core.Path.{_≡_};
 ghost use Prim.Native.Nat.{_<_};
-ghost use Rattle.following.specs.Run.{accepted};
-ghost use Rattle.logs.specs.Log.{recordCount, recordAt, badRecord, eventOf, recorded, emptyLog, orBefore, applied, logOf};
+ghost use Rattle.logs.specs.Log.{recordCount, recordAt, badRecord, eventOf, emptyLog, orBefore, applied, logOf};
 use following::Event;
 use following::Stepped;
 use following::accepted;
@@ -75,16 +74,6 @@ fn record_at(log: &[u8], i: usize) -> &[u8]
     &log[start..end]
 }
 
-// One record more: 12 is tested before 21 to 25.
-fn recorded(run: Run, entry: &[u8]) -> Stepped
-    ensures { λ r. ⌜ r ≡ recorded (accepted run) (now (entry .entry)) ⌝ }
-{
-    if bad_record(entry) {
-        return refused(BAD_RECORD, run);
-    }
-    step(run, event_of(entry))
-}
-
 // 21 is tested even for an empty log.
 fn empty_log(run: Run) -> Stepped
     ensures { λ r. ⌜ r ≡ emptyLog run ⌝ }
@@ -95,22 +84,25 @@ fn empty_log(run: Run) -> Stepped
     accepted(run)
 }
 
-// The records in turn; the first refusal hands back the state from before the log.
+// The records in turn, 12 tested before 21 to 25; the first refusal hands back the state from before the log.
 fn applied(run: Run, log: &[u8]) -> Stepped
     ensures { λ r. ⌜ r ≡ orBefore run (applied run (now (log .entry)) (recordCount (now (log .entry)))) ⌝ }
 {
     let count = (log.len() + (RECORD_LENGTH - 1)) / RECORD_LENGTH;
-    let mut state = run;
+    let mut answer = accepted(run);
     let mut i: usize = 0;
     while i < count {
-        let answer = recorded(state, record_at(log, i));
+        let entry = record_at(log, i);
+        if bad_record(entry) {
+            return refused(BAD_RECORD, run);
+        }
+        answer = step(answer.run, event_of(entry));
         if answer.number != 0 {
             return refused(answer.number, run);
         }
-        state = answer.run;
         i += 1;
     }
-    accepted(state)
+    answer
 }
 
 // The records of a log, read and applied in turn: the state after them, or the first refusal and the state from before the log.

@@ -2,7 +2,7 @@
 -- Assumes nothing.
 use Prim.Native.Nat.{ℕ, zero, suc, _+_, _-_, _≤_, _<_}
 use mathlib.Core.Path.{_≡_, refl, sym, _∙_}
-use mathlib.Core.Bool.{Bool, true, false, not, _||_}
+use mathlib.Core.Bool.{Bool, false, not, _||_, or-false}
 use mathlib.Core.List.{List}
 use native.Mathlib.Nat.{sub-self}
 use native.Mathlib.Numerals.{add-one}
@@ -19,7 +19,8 @@ use Rattle.job.specs.Working.Sound.{Sound}
 use Rattle.job.specs.declared.Job.{Job}
 use Rattle.refusals.specs.Refusals.{first, has, distinct, Numbered}
 use Rattle.refusals.proofs.Refusals.{first-clear}
-use Rattle.lists.proofs.Lists.{or-fails, some-fails, some-holds, some-more}
+use Rattle.lists.proofs.Lists.{or-fails, some-fails}
+use Rattle.job.proofs.Heaviest.{nothing-allowed, heavier-decides, lighter-follows}
 use Rattle.job.proofs.Weights.{total-more, total-mono, between-range}
 use Rattle.marks.specs.Marks.{marksOf, badMarks, badStretch, badStretches, marksConditions}
 
@@ -76,48 +77,66 @@ module _ (n : ℕ) (l : List ℕ) (right : badMarks n l ≡ false) where
   pub marks-end : marksOf l n ≡ disk
   marks-end = eqb-true _ _ (not-false (eqb (marksOf l n) disk) (or-fails (some n (λ j. ltb disk (getD l j 0))) _ rest .1))
 
--- the walk over the tasks: the weight since the last marked position, and no bad stretch up to j
-pub record Walked (job : Job) (l : List ℕ) (j weight : ℕ) : Type 0 where
+-- the walk over the tasks: the weight since the last marked position, and the heaviest stretch that ended up to j, which decides for all of them
+pub record Walked (job : Job) (l : List ℕ) (j heaviest weight : ℕ) : Type 0 where
   pub weighs : weight ≡ running (job .weights) (marksOf l) j
-  pub clear : some j (λ i. badStretch job l (suc i)) ≡ false
+  pub bounded : heaviest ≤ costLimit
+  pub decides : some j (λ i. badStretch job l (suc i)) ≡ not (isAllowed (job .platform) heaviest)
 
 module _ (job : Job) (l : List ℕ) where
-  pub walked-none : Walked job l 0 0
+  pub walked-none : Walked job l 0 0 0
   unfolding some
-  walked-none = record { weighs = sym (running-start (job .weights) (marksOf l)); clear = refl }
+  walked-none =
+      record { weighs = sym (running-start (job .weights) (marksOf l)); bounded = omega arith; decides = rw (nothing-allowed (job .platform)) }
 
-  module _ (j weight : ℕ) (walked : Walked job l j weight) where
+  module _ (j heaviest weight : ℕ) (walked : Walked job l j heaviest weight) where
     to-here : weight + weightAt (job .weights) j ≡ between (job .weights) (last verification (marksOf l) (suc j)) (suc j)
     to-here = rw (walked .weighs) (running-add (job .weights) (marksOf l) j)
 
-    allowed-here : 0 < getD l j 0 → (b : Bool) → isAllowed (job .platform) (weight + weightAt (job .weights) j) ≡ b → badStretch job l (suc j) ≡ not b
+    -- the stretch that ends here, by its weight
+    here : 0 < getD l j 0 → badStretch job l (suc j) ≡ not (isAllowed (job .platform) (weight + weightAt (job .weights) j))
     unfolding stretchAllowed
-    allowed-here h b e = stretch-marked job l j h ∙ rw (← to-here, e)
+    here h = stretch-marked job l j h ∙ rw (← to-here)
+
+    next : (b : Bool) → badStretch job l (suc j) ≡ b → some (j + 1) (λ i. badStretch job l (suc i)) ≡ (not (isAllowed (job .platform) heaviest) || b)
+    unfolding some
+    next b e = rw (add-one, walked .decides, e)
+
+    ended : 0 < getD l j 0 → 0 ≡ running (job .weights) (marksOf l) (j + 1)
+    ended h = rw add-one (sym (running-marked (job .weights) (marksOf l) j h))
 
     pub walked-range : Sound job → j < job .tasks → weight + weightAt (job .weights) j ≤ costLimit
     walked-range s h = rw to-here (between-range job s (last verification (marksOf l) (suc j)) (suc j) h)
 
-    pub walked-marked : 0 < getD l j 0 → isAllowed (job .platform) (weight + weightAt (job .weights) j) ≡ true → Walked job l (j + 1) 0
-    walked-marked h e =
-        record {
-          weighs = rw add-one (sym (running-marked (job .weights) (marksOf l) j h));
-          clear = some-more j _ (walked .clear) (allowed-here h true e);
-        }
+    module _ (marked : 0 < getD l j 0) where
+      pub walked-heavier : weight + weightAt (job .weights) j ≤ costLimit → heaviest < weight + weightAt (job .weights) j
+          → Walked job l (j + 1) (weight + weightAt (job .weights) j) 0
+      walked-heavier b h =
+          record {
+            weighs = ended marked;
+            bounded = b;
+            decides = next _ (here marked) ∙ heavier-decides (job .platform) heaviest (weight + weightAt (job .weights) j) (omega arith);
+          }
 
-    pub walked-plain : getD l j 0 ≡ 0 → Walked job l (j + 1) (weight + weightAt (job .weights) j)
+      pub walked-lighter : weight + weightAt (job .weights) j ≤ heaviest → Walked job l (j + 1) heaviest 0
+      walked-lighter h =
+          record {
+            weighs = ended marked;
+            bounded = walked .bounded;
+            decides = next _ (here marked) ∙ lighter-follows (job .platform) (weight + weightAt (job .weights) j) heaviest h;
+          }
+
+    pub walked-plain : getD l j 0 ≡ 0 → Walked job l (j + 1) heaviest (weight + weightAt (job .weights) j)
     walked-plain h =
         record {
-          weighs = rw (add-one, walked .weighs) (sym (running-plain (job .weights) (marksOf l) j (h)));
-          clear = some-more j _ (walked .clear) (stretch-plain job l j h);
+          weighs = rw (add-one, walked .weighs) (sym (running-plain (job .weights) (marksOf l) j h));
+          bounded = walked .bounded;
+          decides = next false (stretch-plain job l j h) ∙ or-false (not (isAllowed (job .platform) heaviest));
         }
 
-    pub walked-bad : j < job .tasks → 0 < getD l j 0 → isAllowed (job .platform) (weight + weightAt (job .weights) j) ≡ false → badStretches job l ≡ true
-    unfolding badStretches
-    walked-bad k h e = some-holds (job .tasks) _ j k (allowed-here h false e)
-
-  pub walked-all : (j weight : ℕ) → Walked job l j weight → j ≡ job .tasks → badStretches job l ≡ false
+  pub walked-all : (j heaviest weight : ℕ) → Walked job l j heaviest weight → j ≡ job .tasks → badStretches job l ≡ not (isAllowed (job .platform) heaviest)
   unfolding badStretches
-  walked-all j weight walked e = rw e at (walked .clear)
+  walked-all j heaviest weight walked e = rw e at (walked .decides)
 
 -- what passing checks 9 and 10 means
 pub record MarksPassed (job : Job) (l : List ℕ) : Type 0 where

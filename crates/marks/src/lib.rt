@@ -71,27 +71,27 @@ fn bad_marks(n: usize, marks: &[u8]) -> bool
     marks[n - 1] != DISK
 }
 
-// Check 10: a stretch from one marked position, or the start, to the next is not allowed.
+// Check 10: a stretch from one marked position, or the start, to the next is not allowed. Where one is not, the heaviest is not.
 fn bad_stretches(job: Job, marks: &[u8]) -> bool
     requires { ⌜ ReadyForStretches job (now marks) ⌝ }
     ensures { λ r. ⌜ r ≡ badStretches job (now (marks .entry)) ⌝ }
 {
     let n = job.tasks;
     let weights = job.weights;
-    let platform = job.platform;
+    let mut heaviest: u64 = 0;
     let mut weight: u64 = 0;
     let mut j: usize = 0;
     while j < n {
         weight += weights[j] as u64;
         if marks[j] != 0 {
-            if !is_allowed(platform, weight) {
-                return true;
+            if heaviest < weight {
+                heaviest = weight;
             }
             weight = 0;
         }
         j += 1;
     }
-    false
+    !is_allowed(job.platform, heaviest)
 }
 
 // The first of checks 9 and 10 that holds, or 0. The job has passed checks 3, 7 and 8.

@@ -69,17 +69,16 @@ fn broken_place(run: Run) -> bool
 fn value_refusal(run: Run) -> u64
     ensures { λ r. ⌜ r ≡ first (valueConditions (run .job) (marksRead run)) ⌝ }
 {
-    let job = run.job;
-    let n = job.tasks;
+    let n = run.job.tasks;
     if bad_count(n) {
         return BAD_COUNT;
     }
-    let number = job_refusal(job);
+    let number = job_refusal(run.job);
     if number != 0 {
         return number;
     }
     let marks = run.marks;
-    marks_refusal(job, &marks[..n])
+    marks_refusal(run.job, &marks[..n])
 }
 
 // 21: the state breaks a rule.

@@ -1,10 +1,9 @@
 -- What a job that passed checks 3, 7 and 8 is known to have, as facts.
-use Prim.Native.Nat.{_≤_, _<_}
-use mathlib.Core.Path.{_≡_}
-use mathlib.Core.Bool.{false}
+use Prim.Native.Nat.{ℕ, _≤_, _<_}
+use mathlib.Core.List.{List}
+use lib.ListN.{length}
 use Rattle.units.specs.Limits.{costLimit}
 use Rattle.job.specs.Job.{taskLimit, total}
-use Rattle.job.specs.Checks.{badValue}
 use Rattle.job.specs.declared.Platform.{Platform}
 use Rattle.job.specs.declared.Job.{Job}
 
@@ -15,10 +14,10 @@ pub record CostsBounded (p : Platform) : Type 0 where
   pub rd : p .rd ≤ costLimit
   pub rm : p .rm ≤ costLimit
 
--- values that passed checks 3 and 7
-pub record ReadyForTasks (job : Job) : Type 0 where
-  pub few-tasks : job .tasks ≤ taskLimit
-  pub value : badValue job ≡ false
+-- a task count that passed check 3, and weights for so many
+pub record ReadyForWeights (n : ℕ) (w : List ℕ) : Type 0 where
+  pub few-tasks : n ≤ taskLimit
+  pub held : n ≤ length w
 
 pub record Sound (job : Job) : Type 0 where
   pub some-task : 0 < job .tasks

@@ -16,10 +16,10 @@ use Rattle.job.proofs.checks.bad_weights.Statement.{statement}
 use Rattle.job.proofs.checks.bad_weights.Tie as tie
 
 abbrev Inv-loop : tie.InvT-loop
-Inv-loop n weights sum₀ j₀ sum j = (j ≤ n) × (some j (badWeight weights) ≡ false) × (sum ≡ total weights j) × (sum ≤ j * costLimit)
+Inv-loop weights n sum₀ j₀ sum j = (j ≤ n) × (some j (badWeight weights) ≡ false) × (sum ≡ total weights j) × (sum ≤ j * costLimit)
 
 abbrev μ-loop : tie.MeasureT-loop
-μ-loop n weights sum₀ j₀ sum j = n - j
+μ-loop weights n sum₀ j₀ sum j = n - j
 
 loop-holds : tie.Need-loop-holds Inv-loop μ-loop
 unfolding some total
@@ -28,8 +28,8 @@ loop-holds c = (search needs, refl, refl, search needs)
 mul-w : tie.Need-mul-w Inv-loop μ-loop
 mul-w c = search needs
 
-array-read-w : tie.Need-array-read-w Inv-loop μ-loop
-array-read-w c = search needs
+shared-slice-read-w : tie.Need-shared-slice-read-w Inv-loop μ-loop
+shared-slice-read-w c = search needs
 
 bad-weight-requires : tie.Need-bad-weight-requires Inv-loop μ-loop
 bad-weight-requires c κs = search needs
@@ -37,19 +37,24 @@ bad-weight-requires c κs = search needs
 returns : tie.Need-returns Inv-loop μ-loop
 unfolding badWeight
 returns c =
-    let args = c .before .before .before .before .args in
-    let loop = c .before .before .before .loop in
-    rw (some-holds (args .n) (badWeight (args .t1)) (loop .j) (omega arith) (sym (c .before .bad-weight .ensures) ∙ c .if1 .taken))
+    let args = c .before .before .before .before .before .before .args in
+    let loop = c .before .before .before .before .loop in
+    rw (some-holds (args .n) (badWeight (args .weights .now)) (loop .j) (omega arith) (sym (c .before .bad-weight .ensures) ∙ c .if1 .taken))
 
 cast-sum : tie.Need-cast-sum Inv-loop μ-loop
-cast-sum c = search needs
+unfolding badWeight
+cast-sum c =
+    let args = c .before .before .before .before .before .before .args in
+    let loop = c .before .before .before .before .loop in
+    let range = weight-range (args .weights .now) (loop .j) (sym (c .before .bad-weight .ensures) ∙ c .if1 .left) in
+    search (needs, range)
 
 add-sum : tie.Need-add-sum Inv-loop μ-loop
 unfolding badWeight
 add-sum c =
-    let args = c .before .before .before .before .args in
-    let loop = c .before .before .before .loop in
-    omega (arith, weight-range (args .t1) (loop .j) (sym (c .before .bad-weight .ensures) ∙ c .if1 .left))
+    let args = c .before .before .before .before .before .before .args in
+    let loop = c .before .before .before .before .loop in
+    omega (arith, weight-range (args .weights .now) (loop .j) (sym (c .before .bad-weight .ensures) ∙ c .if1 .left))
 
 add-j : tie.Need-add-j Inv-loop μ-loop
 add-j c = omega arith
@@ -60,17 +65,17 @@ loop-less c = omega arith
 loop-again : tie.Need-loop-again Inv-loop μ-loop
 unfolding badWeight
 loop-again c =
-    let args = c .before .before .before .before .args in
-    let loop = c .before .before .before .loop in
+    let args = c .before .before .before .before .before .before .args in
+    let loop = c .before .before .before .before .loop in
     let bad-weight = c .before .bad-weight in (
       omega arith,
       some-more _ _ (loop .inv .1) (sym (bad-weight .ensures) ∙ c .if1 .left),
-      omega (arith, total-more (args .t1) (loop .j)),
-      omega (arith, weight-range (args .t1) (loop .j) (sym (bad-weight .ensures) ∙ c .if1 .left)),
+      omega (arith, total-more (args .weights .now) (loop .j)),
+      omega (arith, weight-range (args .weights .now) (loop .j) (sym (bad-weight .ensures) ∙ c .if1 .left)),
     )
 
 returns-2 : tie.Need-returns-2 Inv-loop μ-loop
-returns-2 c = let e : c .before .loop .j ≡ c .before .before .args .n = omega arith in rw (← e, c .before .loop .inv .1, ← (c .before .loop .inv .2))
+returns-2 c = let e : c .before .loop .j ≡ c .before .before .before .args .n = omega arith in rw (← e, c .before .loop .inv .1, ← (c .before .loop .inv .2))
 
 pub bad-weights-spec : {M : Type 1} → statement M
 bad-weights-spec =
@@ -80,7 +85,7 @@ bad-weights-spec =
     μ-loop
     loop-holds
     mul-w
-    array-read-w
+    shared-slice-read-w
     bad-weight-requires
     returns
     cast-sum

@@ -34,14 +34,14 @@ returns-2 c =
     let bad-count = c .before .before .before .bad-count in
     let if1 = c .before .before .if1 in
     let job-refusal = c .before .job-refusal in
-    let args = c .before .before .before .before .before .args in
+    let args = c .before .before .before .before .args in
     let if2 = c .if2 in
     refused-later Numbers.badCount _ (bad-count .ensures) (if1 .left)
     (job-refusal .ensures ∙ sym (first-stands (jobConditions (args .run .job)) _ (omega (arith, job-refusal .ensures, if2 .taken))))
 
 array-share-prefix-marks : tie.Need-array-share-prefix-marks
 array-share-prefix-marks c =
-    let args = c .before .before .before .before .before .before .args in
+    let args = c .before .before .before .before .before .args in
     let bad-count = c .before .before .before .before .bad-count in
     let if1 = c .before .before .before .if1 in
     let l : length (args .run .marks) ≡ taskLimit = search needs in
@@ -49,7 +49,7 @@ array-share-prefix-marks c =
 
 slice-aggregate-marks-refusal : tie.Need-slice-aggregate-marks-refusal
 slice-aggregate-marks-refusal c =
-    let args = c .before .before .before .before .before .before .before .args in
+    let args = c .before .before .before .before .before .before .args in
     let bad-count = c .before .before .before .before .before .bad-count in
     let if1 = c .before .before .before .before .if1 in
     let l : length (args .run .marks) ≡ taskLimit = search needs in
@@ -57,7 +57,7 @@ slice-aggregate-marks-refusal c =
 
 marks-refusal-requires : tie.Need-marks-refusal-requires
 marks-refusal-requires c κs =
-    let args = c .before .before .before .before .before .before .before .args in
+    let args = c .before .before .before .before .before .before .args in
     let bad-count = c .before .before .before .before .before .bad-count in
     let if1 = c .before .before .before .before .if1 in
     let job-refusal = c .before .before .before .job-refusal in
@@ -69,7 +69,7 @@ returns-3 c =
     let bad-count = c .before .before .before .before .before .before .bad-count in
     let if1 = c .before .before .before .before .before .if1 in
     let marks-refusal = c .marks-refusal in
-    let args = c .before .before .before .before .before .before .before .before .args in
+    let args = c .before .before .before .before .before .before .before .args in
     let job-refusal = c .before .before .before .before .job-refusal in
     let if2 = c .before .before .before .if2 in
     refused-later Numbers.badCount _ (bad-count .ensures) (if1 .left)
