@@ -16,9 +16,9 @@ use Rattle.marks.specs.Marks.{badMarks, badStretch, badStretches}
 use Rattle.costs.specs.Costs.{vAt, cmAt, cdAt, rdAt, rmAt, verifyPaid, savesPaid}
 use Rattle.costs.specs.Stretch.{S, chainOf, timeOf}
 use Rattle.pricing.specs.Price.{priceRefusal, priceOf}
-use Rattle.state.specs.State.{fresh, zeroRun, totalOf, brokenValues, badAwaiting, overTotal, brokenPlace, broken, finished}
+use Rattle.state.specs.State.{cleared, fresh, zeroRun, totalOf, brokenValues, badAwaiting, overTotal, brokenPlace, broken, finished}
 use Rattle.following.specs.Run.{afterDone, afterPassed, backToMemory, backToDisk, placeAfter, nextPlace, outOfTurn, overWeight, stepRefusal, stepOf}
-use Rattle.following.specs.Start.{heldMarks, startRefusal, startOf}
+use Rattle.following.specs.Start.{startRefusal, startOf}
 use Rattle.history.specs.Events.{steps}
 use Rattle.examples.specs.Starred.{sheetA, sheetOne, timeUnder, runOfA, starred, allAgree}
 
@@ -38,9 +38,9 @@ unfolding up
     vAt cmAt cdAt rdAt rmAt verifyPaid savesPaid
     S chainOf timeOf
     priceRefusal priceOf
-    fresh zeroRun totalOf brokenValues badAwaiting overTotal brokenPlace broken finished
+    cleared fresh zeroRun totalOf brokenValues badAwaiting overTotal brokenPlace broken finished
     afterDone afterPassed backToMemory backToDisk placeAfter nextPlace outOfTurn overWeight stepRefusal stepOf
-    heldMarks startRefusal startOf
+    startRefusal startOf
     steps
     sheetA sheetOne timeUnder runOfA starred allAgree
 starred-examples = refl

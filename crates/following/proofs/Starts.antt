@@ -1,48 +1,21 @@
--- A start by its answers: the sheet's checks decide before those of the marks, and the marks of an accepted start fit a state. Assumes nothing.
-use Prim.Native.Nat.{ℕ, suc, _+_, _-_, _≤_, _<_}
-use mathlib.Core.Path.{_≡_, refl, sym, _∙_, ap}
-use mathlib.Core.List.{List, _++_}
+-- A start by its answers: the sheet's checks decide before those of the marks, and an accepted start has a mark for each task. Assumes nothing.
+use Prim.Native.Nat.{ℕ}
+use mathlib.Core.Path.{_≡_, sym, _∙_, ap}
+use mathlib.Core.List.{List}
 use native.Mathlib.Nat.{pos-of-ne-zero}
-use native.Mathlib.Numerals.{add-one}
-use native.Mathlib.Omega.{arith}
 use borrow.Author.Tests.{ne-eqb}
-use lib.ListN.{length, getD, take, set, replicate}
-use lib.Seq.{length-take-le, take-length, take-suc, append-snoc, set-at}
+use lib.ListN.{length}
 use Rattle.refusals.specs.Numbers
 use Rattle.refusals.specs.Refusals.{first}
 use Rattle.refusals.proofs.Refusals.{first-stands, first-goes-on}
-use Rattle.job.specs.Job.{taskLimit}
 use Rattle.job.specs.Working.Sound.{Sound}
 use Rattle.sheet.specs.Reading.{sheetConditions, sheetRefusal, jobOf, readingOf}
 use Rattle.sheet.specs.declared.JobReading.{JobReading}
 use Rattle.sheet.proofs.Readings.{sheet-numbered, sheet-sound, reading-number, reading-job}
 use Rattle.marks.specs.Marks.{marksConditions}
 use Rattle.marks.proofs.Stretches.{marks-length, marks-passed}
-use Rattle.following.specs.Start.{heldMarks, refusedStart, startRefusal, startOf}
+use Rattle.following.specs.Start.{refusedStart, startRefusal, startOf}
 use Rattle.state.specs.State.{fresh}
-
--- the first j marks, and 0 past them
-pub heldTo : List ℕ → ℕ → List ℕ
-heldTo marks j = take j marks ++ replicate (taskLimit - j) 0
-
-pub held-none : (marks : List ℕ) → replicate taskLimit 0 ≡ heldTo marks 0
-unfolding heldTo
-held-none marks = refl
-
--- one mark more takes the place of a 0
-pub held-more : (marks : List ℕ) (j : ℕ) → j < length marks → length marks ≤ taskLimit → set (heldTo marks j) j (getD marks j 0) ≡ heldTo marks (j + 1)
-unfolding heldTo
-held-more marks j h l =
-    let left = taskLimit - suc j in
-    let one : taskLimit - j ≡ suc left = omega arith in
-    rw (add-one j, one)
-    (set-at (take j marks) 0 (replicate left 0) (getD marks j 0) j (length-take-le j marks (omega arith))
-    ∙ sym (append-snoc (take j marks) (getD marks j 0) (replicate left 0))
-    ∙ ap (λ (t : List ℕ). t ++ replicate left 0) (sym (take-suc marks j 0 h)))
-
-pub held-all : (marks : List ℕ) (j : ℕ) → j ≡ length marks → heldTo marks j ≡ heldMarks marks
-unfolding heldTo heldMarks
-held-all marks j e = rw (e, take-length marks)
 
 -- what an accepted reading gives
 pub record SheetRead (s : List ℕ) (reading : JobReading) : Type 0 where
@@ -78,13 +51,10 @@ module _ (s marks : List ℕ) (clear : sheetRefusal s ≡ 0) where
   start-refused number e h = rw (start-by-marks, ← e, ne-eqb _ _ h)
 
   module _ (right : first (marksConditions (jobOf s) marks) ≡ 0) where
-    pub start-accepted : record { number = Numbers.accepted; run = fresh (jobOf s) (heldMarks marks) } ≡ startOf s marks
+    pub start-accepted : record { number = Numbers.accepted; run = fresh (jobOf s) marks } ≡ startOf s marks
     unfolding startOf
     start-accepted = rw (start-by-marks, right)
 
-    -- the marks of an accepted start are as many as its tasks, and fit a state
+    -- the marks of an accepted start are as many as its tasks
     pub start-length : length marks ≡ jobOf s .tasks
     start-length = marks-length (jobOf s .tasks) marks (marks-passed (jobOf s) marks right .marks)
-
-    pub start-fits : length marks ≤ taskLimit
-    start-fits = omega (arith, start-length, sheet-sound s clear .few-tasks)

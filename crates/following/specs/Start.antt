@@ -1,19 +1,13 @@
 -- Starting a run: refusals 1 to 10 of document 01.
-use Prim.Native.Nat.{ℕ, _-_}
+use Prim.Native.Nat.{ℕ}
 use mathlib.Core.Bool.{cond}
 use mathlib.Core.List.{List, _++_}
 use lib.Dec.{eqb}
-use lib.ListN.{length, replicate}
 use Rattle.refusals.specs.Refusals.{Condition, first}
-use Rattle.job.specs.Job.{taskLimit}
 use Rattle.sheet.specs.Reading.{jobOf, sheetConditions}
 use Rattle.marks.specs.Marks.{marksConditions}
 use Rattle.state.specs.State.{fresh, zeroRun}
 use Rattle.following.specs.declared.Started.{Started}
-
--- the marks as a state holds them: 0 past the last of them, which is that of task n once 9 is passed
-unfoldable pub heldMarks : List ℕ → List ℕ
-heldMarks marks = marks ++ replicate (taskLimit - length marks) 0
 
 -- a refused start: its number, and a state with every field 0
 abbrev pub refusedStart : ℕ → Started
@@ -31,5 +25,5 @@ unfoldable pub startOf : List ℕ → List ℕ → Started
 startOf sheet marks =
     record {
       number = startRefusal sheet marks;
-      run = cond (eqb (startRefusal sheet marks) 0) (fresh (jobOf sheet) (heldMarks marks)) zeroRun;
+      run = cond (eqb (startRefusal sheet marks) 0) (fresh (jobOf sheet) marks) zeroRun;
     }

@@ -15,7 +15,6 @@ use refusals::ACCEPTED;
 use refusals::BROKEN;
 use refusals::FINISHED;
 use sheet::read::read_job;
-use starting::held_marks;
 use starting::refused_start;
 use state::Run;
 use state::rules::broken;
@@ -90,6 +89,6 @@ pub fn start(sheet: &[u8], marks: &[u8]) -> Started
     }
     Started {
         number: ACCEPTED,
-        run: Run::fresh(reading.job, held_marks(marks)),
+        run: Run::fresh(reading.job, marks),
     }
 }

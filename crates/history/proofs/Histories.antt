@@ -1,169 +1,217 @@
--- A followed run and its history. While the copies of a history are the last marked positions before the place where the next event strikes,
--- each accepted event takes both to the same place, and the copies stay so. The ticks of an event are what it adds to the sums. Assumes nothing.
+-- A followed run and its history. From any state that 21 accepts, an accepted event adds to each sum what the history counts for it and goes on with the history;
+-- so do accepted events one by one, and from the beginning they give the history's own place and sums. Assumes nothing.
 use Prim.Native.Nat.{ℕ, zero, suc, _+_, _-_, _≤_, _<_}
-use mathlib.Core.Path.{_≡_, refl, sym, _∙_, ap, fun-ext}
-use mathlib.Core.Bool.{Bool, true, false, cond}
-use mathlib.Core.List.{List, [], _∷_, _++_}
-use native.Mathlib.Decide.{decLe, decLt, ℕ-discrete}
+use mathlib.Core.Path.{_≡_, refl, _∙_, ap}
+use mathlib.Core.Bool.{Bool, true, false, _||_, cond}
+use mathlib.Core.List.{List, [], _∷_}
+use native.Mathlib.Decide.{decLe, ℕ-discrete}
 use native.Mathlib.Numerals.{add-one}
 use native.Mathlib.Omega.{arith}
-use borrow.Author.Tests.{le-leb, lt-leb, eq-eqb, ne-eqb, not-false}
+use borrow.Author.Tests.{le-leb, lt-leb, eq-eqb, ne-eqb, eqb-false, not-false}
 use lib.Dec.{leb, eqb}
-use lib.ListN.{length, getD, replicate, List·getD-append, List·getD-eq-default}
-use lib.Seq.{getD-append-add}
-use Rattle.chain.specs.Time.{Marks, memory, disk, last}
-use Rattle.chain.proofs.Equations.{last-here, last-past, last-lt, last-first}
-use Rattle.chain.proofs.Last.{last-marked, last-between, last-over}
-use Rattle.job.specs.Job.{taskLimit, total, between}
+use Rattle.chain.specs.Time.{Marks, memory, disk}
+use Rattle.chain.proofs.Equations.{last-first, last-le}
+use Rattle.lists.proofs.Lists.{or-fails}
+use Rattle.job.specs.Job.{total, between}
 use Rattle.job.specs.declared.Job.{Job}
 use Rattle.job.proofs.Weights.{total-more, total-mono}
-use Rattle.sheet.specs.Reading.{jobOf}
-use Rattle.marks.specs.Marks.{marksOf}
-use Rattle.state.specs.State.{totalOf, marksIn, fresh}
-use Rattle.following.specs.Run.{afterDone, afterPassed, backToMemory, backToDisk, placeAfter, nextPlace, outOfTurn, standing, stepOf}
-use Rattle.following.specs.Start.{heldMarks, startOf}
+use Rattle.marks.specs.Pays.{table, paysOf}
+use Rattle.costs.specs.Costs.{vAt, cmAt, cdAt, verifyPaid, savesPaid}
+use Rattle.state.specs.State.{totalOf, marksIn, badAwaiting, broken, beginning}
+use Rattle.state.specs.declared.Sums.{Sums}
 use Rattle.state.specs.declared.Place.{Place}
 use Rattle.state.specs.declared.Run.{Run}
+use Rattle.state.proofs.Copies.{last-up-to}
+use Rattle.state.proofs.Soundness.{run-place, run-marks}
+use Rattle.following.specs.Run.{afterDone, afterPassed, backToMemory, backToDisk, placeAfter, nextPlace, outOfTurn, standing, stepOf}
 use Rattle.following.specs.declared.Event.{Event}
 use Rattle.following.specs.declared.Event.the-variants.{Done, Passed, Failed, Stopped}
-use Rattle.state.proofs.Copies.{move-kept}
 use Rattle.history.specs.Events.{steps}
-use Rattle.history.specs.History.{History, atStart, happened, historyFrom, history, ticksOf, ticksFrom, ticks}
-use Rattle.history.proofs.Accepted.{step-accepted, start-begun}
+use Rattle.history.specs.History.{History, atStart, happened, historyFrom, history, historyAt}
+use Rattle.history.specs.Counts.{countFrom, count, joinsKept, moves, joinsRedone, joinsVerify, joinsSaves, joinsRecovery, sumsOf, placeOf, ticksOf, ticks, Added, StepCounts}
+use Rattle.history.proofs.Accepted.{step-accepted}
+use Rattle.history.proofs.Copies.{history-goes-on}
 
--- the position before which the marks have been passed: that of an awaited verification, or the one after the run's
-abbrev passedBefore : Place → ℕ
-passedBefore place = cond (place .awaiting) (place .position) (suc (place .position))
+-- what a mark pays, by its row of the table and by its number
+record Pays (job : Job) (k v : ℕ) : Type 0 where
+  verify : verifyPaid job k v ≡ vAt job v
+  saves : savesPaid job k v ≡ cond (leb memory k) (cmAt job v) 0 + cond (leb disk k) (cdAt job v) 0
 
--- the copies of a history are the last ones that its passed marks saved
-record LastCopies (f : Marks) (h : History) : Type 0 where
-  inMemory : h .inMemory ≡ last memory f (passedBefore (h .place))
-  onDisk : h .onDisk ≡ last disk f (passedBefore (h .place))
+mark-pays : (job : Job) (k v : ℕ) → 0 < k → k ≤ disk → Pays job k v
+unfolding verifyPaid savesPaid paysOf table
+mark-pays job zero v a b = absurd (omega arith)
+mark-pays job (suc zero) v a b = record { verify = refl; saves = refl }
+mark-pays job (suc (suc zero)) v a b = record { verify = refl; saves = refl }
+mark-pays job (suc (suc (suc zero))) v a b = record { verify = refl; saves = refl }
+mark-pays job (suc (suc (suc (suc k)))) v a b = absurd (omega arith)
 
--- the same seen from a position v
-record CopiesBefore (f : Marks) (h : History) (v : ℕ) : Type 0 where
-  inMemory : h .inMemory ≡ last memory f v
-  onDisk : h .onDisk ≡ last disk f v
+-- the parts of an event's ticks
+ticks-parts : (job : Job) (f : Marks) (h : History) (e : Event)
+    → ticksOf job f h e ≡ joinsKept job h e + joinsRedone h e + joinsVerify job h e + joinsSaves job f h e + joinsRecovery job h e
+unfolding ticksOf joinsKept joinsRedone joinsVerify joinsSaves joinsRecovery
+ticks-parts job f h Done = omega arith
+ticks-parts job f h Passed = omega arith
+ticks-parts job f h Failed = omega arith
+ticks-parts job f h (Stopped lost) = omega arith
 
--- seen from a last position, it is the last position still, at its own level and at a lower one
-last-saved : (k j : ℕ) (f : Marks) (v : ℕ) → k ≤ j → last k f (suc (last j f v)) ≡ last j f v
-last-saved k j f v h = go (ℕ-discrete (last j f v) 0)
-  where
-    go : Dec (last j f v ≡ 0) → last k f (suc (last j f v)) ≡ last j f v
-    go (yes z) = rw z (last-first k f)
-    go (no z) = last-here k f (last j f v) (omega (arith, last-marked j f v z))
+-- the five sums by themselves
+record Each (job : Job) (f : Marks) (h : History) (e : Event) (before after : Sums) : Type 0 where
+  kept : after .kept + moves job h e ≡ before .kept + joinsKept job h e
+  redone : after .redone ≡ before .redone + (joinsRedone h e + moves job h e)
+  verify : after .verify ≡ before .verify + joinsVerify job h e
+  saves : after .saves ≡ before .saves + joinsSaves job f h e
+  recovery : after .recovery ≡ before .recovery + joinsRecovery job h e
 
--- from a position back to the memory copy before it no disk copy is passed
-disk-kept : (f : Marks) (v : ℕ) → last disk f v ≡ last disk f (suc (last memory f v))
-unfolding last
-disk-kept f zero = sym (last-first disk f)
-disk-kept f (suc v) =
-    last-over disk f (last memory f (suc v)) (suc v) (last-lt memory f (suc v) (omega arith))
-    (λ w a b. omega (arith, last-between memory f (suc v) w a b))
+each-added : {job : Job} {f : Marks} {h : History} {e : Event} {before after : Sums} → Each job f h e before after → Added job f h e before after
+unfolding totalOf
+each-added {job} {f} {h} {e} each =
+    record {
+      kept = each .kept;
+      redone = each .redone;
+      verify = each .verify;
+      saves = each .saves;
+      recovery = each .recovery;
+      together = omega (arith, ticks-parts job f h e, each .kept, each .redone, each .verify, each .saves, each .recovery);
+    }
 
-module _ (job : Job) (f : Marks) (h : History) (copies : LastCopies f h) where
-  -- an event in its turn strikes where the follower looks for the copies
-  copies-running : h .place .awaiting ≡ false → CopiesBefore f h (suc (h .place .position))
-  copies-running a = record { inMemory = rw a at (copies .inMemory); onDisk = rw a at (copies .onDisk) }
+module _ (run : Run) (unbroken : broken run ≡ false) where
+  kept-here : run .place .sums .kept ≡ total (run .job .weights) (run .place .position)
+  kept-here = run-place run unbroken .kept
 
-  copies-awaited : h .place .awaiting ≡ true → CopiesBefore f h (h .place .position)
-  copies-awaited a = record { inMemory = rw a at (copies .inMemory); onDisk = rw a at (copies .onDisk) }
+  -- the weights after a copy, which are part of what is kept
+  moved-within : (c : ℕ) → c ≤ run .place .position → between (run .job .weights) c (run .place .position) ≤ run .place .sums .kept
+  unfolding between
+  moved-within c l = omega (arith, kept-here, total-mono (run .job .weights) c (run .place .position) l)
 
-  -- the follower and the history go to the same place
-  same-place : (e : Event) → outOfTurn (h .place .awaiting) e ≡ false → placeAfter job f (h .place) e ≡ happened job f h e .place
-  unfolding placeAfter happened outOfTurn
-  same-place Done t = refl
-  same-place Passed t = refl
-  same-place Failed t = rw (copies-awaited (not-false (h .place .awaiting) t) .inMemory)
-  same-place (Stopped lost) t = rw (copies-running t .onDisk)
+  -- an awaited verification is that of a mark
+  awaited-mark : run .place .awaiting ≡ true → 0 < marksIn run (run .place .position)
+  unfolding badAwaiting
+  awaited-mark t =
+      let clear : (eqb (run .place .position) 0 || eqb (marksIn run (run .place .position)) 0) ≡ false = rw t at (run-place run unbroken .awaiting) in
+      omega (arith, eqb-false (marksIn run (run .place .position)) 0 (or-fails (eqb (run .place .position) 0) _ clear .1))
 
-  -- a task done without a mark saves nothing; with one, its verification is awaited
-  done-copy : (k : ℕ) → 1 < k → last k f (suc (h .place .position)) ≡ last k f (passedBefore (afterDone job f (h .place)))
-  unfolding afterDone
-  done-copy k l = go (ℕ-discrete (f next) 0)
-    where
-      next : ℕ
-      next = suc (h .place .position)
-
-      go : Dec (f next ≡ 0) → last k f next ≡ last k f (passedBefore (afterDone job f (h .place)))
-      go (yes z) = rw (eq-eqb _ _ z) (sym (last-past k f next (omega arith)))
-      go (no z) = rw (ne-eqb _ _ z)
-
-  copies-kept : (e : Event) → outOfTurn (h .place .awaiting) e ≡ false → LastCopies f (happened job f h e)
-  unfolding happened outOfTurn afterPassed backToMemory backToDisk last
-  copies-kept Done t =
-      let s = copies-running t in
-      record { inMemory = s .inMemory ∙ done-copy memory (omega arith); onDisk = s .onDisk ∙ done-copy disk (omega arith) }
-  copies-kept Passed t =
-      let s = copies-awaited (not-false (h .place .awaiting) t) in
-      record { inMemory = rw (s .inMemory); onDisk = rw (s .onDisk) }
-  copies-kept Failed t =
-      let p : ℕ = h .place .position in
-      let s = copies-awaited (not-false (h .place .awaiting) t) in
+  event-counted : (e : Event) → outOfTurn (run .place .awaiting) e ≡ false
+      → Each (run .job) (marksIn run) (historyAt run) e (run .place .sums) (nextPlace run e .sums)
+  unfolding
+      historyAt nextPlace placeAfter outOfTurn afterDone afterPassed backToMemory backToDisk joinsKept moves joinsRedone joinsVerify joinsSaves joinsRecovery
+  event-counted Done t = record { kept = omega arith; redone = omega arith; verify = omega arith; saves = omega arith; recovery = omega arith }
+  event-counted Passed t =
+      let p : ℕ = run .place .position in
+      let pays = mark-pays (run .job) (marksIn run p) p (awaited-mark (not-false (run .place .awaiting) t)) (run-marks run unbroken p (run-place run unbroken .position)) in
       record {
-        inMemory = rw (s .inMemory) (sym (last-saved memory memory f p (omega arith)));
-        onDisk = rw (s .inMemory) (s .onDisk ∙ disk-kept f p);
+        kept = omega arith;
+        redone = omega arith;
+        verify = omega (arith, pays .verify);
+        saves = omega (arith, pays .saves);
+        recovery = omega arith;
       }
-  copies-kept (Stopped lost) t =
-      let p : ℕ = h .place .position in
-      let s = copies-running t in
-      record {
-        inMemory = rw (s .onDisk) (sym (last-saved memory disk f (suc p) (omega arith)));
-        onDisk = rw (s .onDisk) (sym (last-saved disk disk f (suc p) (omega arith)));
-      }
+  event-counted Failed t =
+      let p : ℕ = run .place .position in
+      let within = moved-within _ (last-le memory (marksIn run) p) in
+      rw (not-false (run .place .awaiting) t)
+      (record { kept = omega (arith, within); redone = omega arith; verify = omega arith; saves = omega arith; recovery = omega arith })
+  event-counted (Stopped lost) t =
+      let p : ℕ = run .place .position in
+      let within = moved-within _ (last-up-to disk (marksIn run) p) in
+      rw t (record { kept = omega (arith, within); redone = omega arith; verify = omega arith; saves = omega arith; recovery = omega arith })
 
--- a run and a history that stand at the same place, with the history's copies the last ones
-record Together (run : Run) (h : History) : Type 0 where
-  place : run .place ≡ h .place
-  copies : LastCopies (marksIn run) h
+-- any state that 21 accepts
+pub step-counts : (run : Run) (e : Event) → stepOf run e .number ≡ 0 → StepCounts run e (stepOf run e .run)
+step-counts run e z =
+    let a = step-accepted run e z in
+    rw (a .next)
+    (record {
+      same-sheet = refl;
+      goes-on = history-goes-on run e (a .in-turn);
+      added = each-added (event-counted run (a .unbroken) e (a .in-turn));
+    })
 
--- one accepted event
-module _ (run : Run) (h : History) (together : Together run h) (e : Event) (accepted : stepOf run e .number ≡ 0) where
-  turn : outOfTurn (h .place .awaiting) e ≡ false
-  turn = rw (together .place) at (step-accepted run e accepted .in-turn)
+-- accepted events one by one, from any state: what StepCounts says of one event, of all of them
+record Followed (run : Run) (events : List Event) (after : Run) : Type 0 where
+  same-sheet : after ≡ standing run (after .place)
+  goes-on : historyAt after ≡ historyFrom (marksIn run) (historyAt run) events
+  kept : after .place .sums .kept + countFrom (moves (run .job)) (marksIn run) (historyAt run) events
+      ≡ run .place .sums .kept + countFrom (joinsKept (run .job)) (marksIn run) (historyAt run) events
+  redone : after .place .sums .redone
+      ≡ run .place .sums .redone
+      + (countFrom joinsRedone (marksIn run) (historyAt run) events + countFrom (moves (run .job)) (marksIn run) (historyAt run) events)
+  verify : after .place .sums .verify ≡ run .place .sums .verify + countFrom (joinsVerify (run .job)) (marksIn run) (historyAt run) events
+  saves : after .place .sums .saves ≡ run .place .sums .saves + countFrom (joinsSaves (run .job) (marksIn run)) (marksIn run) (historyAt run) events
+  recovery : after .place .sums .recovery ≡ run .place .sums .recovery + countFrom (joinsRecovery (run .job)) (marksIn run) (historyAt run) events
 
-  one-event : stepOf run e .run ≡ standing run (happened (run .job) (marksIn run) h e .place)
-  unfolding nextPlace
-  one-event = step-accepted run e accepted .next ∙ rw (together .place, same-place (run .job) (marksIn run) h (together .copies) e turn)
+nothing-followed : (run : Run) → Followed run [] run
+unfolding historyFrom countFrom
+nothing-followed run =
+    record { same-sheet = refl; goes-on = refl; kept = refl; redone = omega arith; verify = omega arith; saves = omega arith; recovery = omega arith }
 
-  one-together : Together (standing run (happened (run .job) (marksIn run) h e .place)) (happened (run .job) (marksIn run) h e)
-  one-together = record { place = refl; copies = copies-kept (run .job) (marksIn run) h (together .copies) e turn }
+-- one event, then the others
+event-followed : (run : Run) (place : Place) (e : Event) (events : List Event) (after : Run) → StepCounts run e (standing run place)
+    → Followed (standing run place) events after → Followed run (e ∷ events) after
+unfolding historyFrom countFrom
+event-followed run place e events after one others =
+    let added = one .added in
+    record {
+      same-sheet = others .same-sheet;
+      goes-on = rw (one .goes-on) at (others .goes-on);
+      kept = omega (arith, added .kept, rw (one .goes-on) at (others .kept));
+      redone = omega (arith, added .redone, rw (one .goes-on) at (others .redone));
+      verify = omega (arith, added .verify, rw (one .goes-on) at (others .verify));
+      saves = omega (arith, added .saves, rw (one .goes-on) at (others .saves));
+      recovery = omega (arith, added .recovery, rw (one .goes-on) at (others .recovery));
+    }
 
--- where the history of the events goes from h
-abbrev placeFrom : Run → History → List Event → Place
-placeFrom run h events = historyFrom (run .job) (marksIn run) h events .place
-
-follows-from : (run : Run) (h : History) → Together run h → (events : List Event) → steps run events .number ≡ 0
-    → steps run events .run ≡ standing run (placeFrom run h events)
-unfolding steps historyFrom
-follows-from run h together [] e = rw (← (together .place))
-follows-from run h together (x ∷ xs) e = go (ℕ-discrete (stepOf run x .number) 0) (λ r g s. follows-from r g s xs)
+follows-on : (run : Run) (events : List Event) → steps run events .number ≡ 0 → Followed run events (steps run events .run)
+unfolding steps
+follows-on run [] z = nothing-followed run
+follows-on run (e ∷ es) z = go (ℕ-discrete (stepOf run e .number) 0) (λ r. follows-on r es)
   where
-    after : History
-    after = happened (run .job) (marksIn run) h x
+    go : Dec (stepOf run e .number ≡ 0) → ((r : Run) → steps r es .number ≡ 0 → Followed r es (steps r es .run))
+        → Followed run (e ∷ es) (cond (eqb (stepOf run e .number) 0) (steps (stepOf run e .run) es) (stepOf run e) .run)
+    go (yes q) ih =
+        let next = step-accepted run e q .next in
+        rw (eq-eqb _ _ q, next)
+        (event-followed run (nextPlace run e) e es _ (rw next at (step-counts run e q)) (ih (standing run (nextPlace run e)) (rw (eq-eqb _ _ q, next) at z)))
+    go (no q) ih = absurd (q (rw (ne-eqb _ _ q) at z))
 
-    go : Dec (stepOf run x .number ≡ 0)
-        → ((r : Run) (g : History) → Together r g → steps r xs .number ≡ 0 → steps r xs .run ≡ standing r (placeFrom r g xs))
-        → cond (eqb (stepOf run x .number) 0) (steps (stepOf run x .run) xs) (stepOf run x) .run ≡ standing run (placeFrom run after xs)
-    go (yes z) ih =
-        let s = one-event run h together x z in
-        rw (eq-eqb _ _ z, s) (ih (standing run (after .place)) after (one-together run h together x z) (rw (eq-eqb _ _ z, s) at e))
-    go (no z) ih = absurd (z (rw (ne-eqb _ _ z) at e))
+same-place : {p q : ℕ} {a b : Bool} {k l r s v w x y c d : ℕ} → p ≡ q → a ≡ b → k ≡ l → r ≡ s → v ≡ w → x ≡ y → c ≡ d
+    → _≡_ {A = Place}
+    (record { position = p; awaiting = a; sums = record { kept = k; redone = r; verify = v; saves = x; recovery = c } })
+    (record { position = q; awaiting = b; sums = record { kept = l; redone = s; verify = w; saves = y; recovery = d } })
+same-place e1 e2 e3 e4 e5 e6 e7 = rw (e1, e2, e3, e4, e5, e6, e7)
 
-start-copies : (f : Marks) → LastCopies f atStart
-start-copies f = record { inMemory = sym (last-first memory f); onDisk = sym (last-first disk f) }
+-- a run that stands before task 1 with all five sums at 0
+module _ (run : Run) (new : run .place ≡ beginning) where
+  history-begins : historyAt run ≡ atStart
+  unfolding historyAt
+  history-begins = rw (new, last-first memory (marksIn run), last-first disk (marksIn run))
 
--- demand 2: 'A followed run goes back to the place, and counts the ticks, that the paper's rules give for its whole history.'
--- From a start through any accepted events, the run stands where its history says, awaits what it awaits, and has its five sums.
-pub follows-history : (job : Job) (marks : List ℕ) (events : List Event) → steps (fresh job marks) events .number ≡ 0
-    → steps (fresh job marks) events .run ≡ standing (fresh job marks) (history job (marksOf marks) events .place)
-unfolding fresh history
-follows-history job marks events e = follows-from (fresh job marks) atStart (record { place = refl; copies = start-copies (marksOf marks) }) events e
+  -- demand 2: 'A followed run goes back to the place, and counts the ticks, that the paper's rules give for its whole history.'
+  -- Through any accepted events the run stands where its history says, awaits what it awaits, and has its five sums.
+  pub follows-history : (events : List Event) → steps run events .number ≡ 0
+      → steps run events .run ≡ standing run (placeOf (run .job) (marksIn run) events)
+  unfolding placeOf sumsOf history count historyAt
+  follows-history events z =
+      let followed = follows-on run events z in
+      let stands = followed .goes-on ∙ ap (λ (h : History). historyFrom (marksIn run) h events) history-begins in
+      let new-kept = ap (λ (p : Place). p .sums .kept) new in
+      let new-redone = ap (λ (p : Place). p .sums .redone) new in
+      let new-verify = ap (λ (p : Place). p .sums .verify) new in
+      let new-saves = ap (λ (p : Place). p .sums .saves) new in
+      let new-recovery = ap (λ (p : Place). p .sums .recovery) new in
+      followed .same-sheet
+      ∙ ap (standing run)
+      (same-place
+      (ap (λ (h : History). h .position) stands)
+      (ap (λ (h : History). h .awaiting) stands)
+      (omega (arith, new-kept, rw history-begins at (followed .kept)))
+      (omega (arith, new-redone, rw history-begins at (followed .redone)))
+      (omega (arith, new-verify, rw history-begins at (followed .verify)))
+      (omega (arith, new-saves, rw history-begins at (followed .saves)))
+      (omega (arith, new-recovery, rw history-begins at (followed .recovery))))
 
--- the history's place keeps the weight up to it, and its copies lie in order
-record InStep (job : Job) (h : History) : Type 0 where
-  kept : h .place .sums .kept ≡ total (job .weights) (h .place .position)
-  inMemory : h .inMemory ≤ h .place .position
+-- the copies of a history lie in order
+record Ordered (h : History) : Type 0 where
+  inMemory : h .inMemory ≤ h .position
   onDisk : h .onDisk ≤ h .inMemory
 
 -- a copy at p is no later than p, and what saves on disk saves in memory
@@ -180,99 +228,44 @@ saved-order k {p} {m} {d} a b = go (decLe memory k) (decLe disk k)
     go (no x) (yes y) = absurd (omega arith)
     go (no x) (no y) = rw (lt-leb memory k (omega arith), lt-leb disk k (omega arith)) a
 
-module _ (job : Job) (f : Marks) (h : History) (before : InStep job h) where
-  disk-within : h .onDisk ≤ h .place .position
-  disk-within = omega (arith, before .inMemory, before .onDisk)
+module _ (job : Job) (f : Marks) where
+  order-kept : (h : History) → Ordered h → (e : Event) → Ordered (happened f h e)
+  unfolding happened
+  order-kept h o Done = record { inMemory = omega (arith, o .inMemory); onDisk = o .onDisk }
+  order-kept h o Passed =
+      record { inMemory = saved-within (leb memory (f (h .position))) (o .inMemory); onDisk = saved-order (f (h .position)) (o .onDisk) (o .inMemory) }
+  order-kept h o Failed = record { inMemory = omega arith; onDisk = o .onDisk }
+  order-kept h o (Stopped lost) = record { inMemory = omega arith; onDisk = omega arith }
 
-  in-step-kept : (e : Event) → InStep job (happened job f h e)
-  unfolding happened afterDone afterPassed backToMemory backToDisk
-  in-step-kept Done =
-      record {
-        kept = rw (before .kept, ← (add-one (h .place .position))) (sym (total-more (job .weights) (h .place .position)));
-        inMemory = omega (arith, before .inMemory);
-        onDisk = before .onDisk;
-      }
-  in-step-kept Passed =
-      record {
-        kept = before .kept;
-        inMemory = saved-within (leb memory (f (h .place .position))) (before .inMemory);
-        onDisk = saved-order (f (h .place .position)) (before .onDisk) (before .inMemory);
-      }
-  in-step-kept Failed =
-      record {
-        kept = move-kept (job .weights) (h .inMemory) (h .place .position) (before .kept) (before .inMemory);
-        inMemory = omega arith;
-        onDisk = before .onDisk;
-      }
-  in-step-kept (Stopped lost) =
-      record {
-        kept = move-kept (job .weights) (h .onDisk) (h .place .position) (before .kept) disk-within;
-        inMemory = omega arith;
-        onDisk = omega arith;
-      }
+  -- what is kept is the weight up to the position: what joined it less what moved
+  balance-one : (h : History) → Ordered h → (e : Event)
+      → total (job .weights) (h .position) + joinsKept job h e ≡ total (job .weights) (happened f h e .position) + moves job h e
+  unfolding happened joinsKept moves between
+  balance-one h o Done = omega (arith, rw (add-one (h .position)) at (total-more (job .weights) (h .position)))
+  balance-one h o Passed = omega arith
+  balance-one h o Failed = omega (arith, total-mono (job .weights) (h .inMemory) (h .position) (o .inMemory))
+  balance-one h o (Stopped lost) = omega (arith, total-mono (job .weights) (h .onDisk) (h .position) (omega (arith, o .inMemory, o .onDisk)))
 
-  -- an event adds its ticks to the sums
-  ticks-added : (e : Event) → totalOf (happened job f h e .place .sums) ≡ totalOf (h .place .sums) + ticksOf job f h e
-  unfolding happened afterDone afterPassed backToMemory backToDisk ticksOf totalOf between
-  ticks-added Done = omega arith
-  ticks-added Passed = omega arith
-  ticks-added Failed = omega (arith, before .kept, total-mono (job .weights) (h .inMemory) (h .place .position) (before .inMemory))
-  ticks-added (Stopped lost) = omega (arith, before .kept, total-mono (job .weights) (h .onDisk) (h .place .position) disk-within)
+  balance : (h : History) → Ordered h → (events : List Event)
+      → total (job .weights) (h .position) + countFrom (joinsKept job) f h events
+      ≡ total (job .weights) (historyFrom f h events .position) + countFrom (moves job) f h events
+  unfolding historyFrom countFrom
+  balance h o [] = refl
+  balance h o (e ∷ es) = omega (arith, balance (happened f h e) (order-kept h o e) es, balance-one h o e)
 
-ticks-from : (job : Job) (f : Marks) (h : History) → InStep job h → (events : List Event)
-    → totalOf (historyFrom job f h events .place .sums) ≡ totalOf (h .place .sums) + ticksFrom job f h events
-unfolding historyFrom ticksFrom
-ticks-from job f h c [] = omega arith
-ticks-from job f h c (e ∷ es) = omega (arith, ticks-from job f (happened job f h e) (in-step-kept job f h c e) es, ticks-added job f h c e)
+  parts-from : (h : History) (events : List Event)
+      → countFrom (ticksOf job f) f h events
+      ≡ countFrom (joinsKept job) f h events
+      + countFrom joinsRedone f h events
+      + countFrom (joinsVerify job) f h events
+      + countFrom (joinsSaves job f) f h events
+      + countFrom (joinsRecovery job) f h events
+  unfolding countFrom
+  parts-from h [] = refl
+  parts-from h (e ∷ es) = omega (arith, parts-from (happened f h e) es, ticks-parts job f h e)
 
-start-in-step : (job : Job) → InStep job atStart
-unfolding total
-start-in-step job = record { kept = refl; inMemory = omega arith; onDisk = omega arith }
-
-nothing-counted : totalOf (atStart .place .sums) ≡ 0
-unfolding totalOf
-nothing-counted = refl
-
--- 'The ticks of all events, taken from the history, equal the five sums added.'
-pub ticks-are-sums : (job : Job) (f : Marks) (events : List Event) → ticks job f events ≡ totalOf (history job f events .place .sums)
-unfolding ticks history
-ticks-are-sums job f events = omega (arith, ticks-from job f atStart (start-in-step job) events, nothing-counted)
-
-zeros : (n i : ℕ) → _≡_ {A = ℕ} (getD (replicate n 0) i 0) 0
-zeros zero i = refl
-zeros (suc n) zero = refl
-zeros (suc n) (suc i) = zeros n i
-
--- the marks that a state holds are the marks supplied
-held-same : (marks : List ℕ) (v : ℕ) → marksOf (heldMarks marks) v ≡ marksOf marks v
-unfolding heldMarks
-held-same marks zero = refl
-held-same marks (suc j) = go (decLt j (length marks))
-  where
-    past : (n : ℕ) → length marks ≤ j → getD (marks ++ replicate n 0) j 0 ≡ 0
-    past n l =
-        let i : ℕ = j - length marks in
-        let e : j ≡ length marks + i = omega arith in
-        rw e (getD-append-add marks (replicate n 0) i 0 ∙ zeros n i)
-
-    go : Dec (j < length marks) → marksOf (heldMarks marks) (suc j) ≡ getD marks j 0
-    go (yes l) = List·getD-append marks (replicate (taskLimit - length marks) 0) 0 j l
-    go (no l) = past (taskLimit - length marks) (omega arith) ∙ sym (List·getD-eq-default marks 0 (omega arith))
-
-module _ (sheet marks : List ℕ) (started : startOf sheet marks .number ≡ 0) where
-  start-run : startOf sheet marks .run ≡ fresh (jobOf sheet) (heldMarks marks)
-  start-run = start-begun sheet marks started .run
-
-  -- the same from a sheet and a list of marks
-  pub start-follows-history : (events : List Event) → steps (startOf sheet marks .run) events .number ≡ 0
-      → steps (startOf sheet marks .run) events .run .place ≡ history (jobOf sheet) (marksOf marks) events .place
-  start-follows-history events e =
-      rw start-run
-      (ap (λ (r : Run). r .place) (follows-history (jobOf sheet) (heldMarks marks) events (rw start-run at e))
-      ∙ ap (λ (f : Marks). history (jobOf sheet) f events .place) (fun-ext (held-same marks)))
-
-  -- and its five sums added are the ticks of all its events
-  pub start-ticks : (events : List Event) → steps (startOf sheet marks .run) events .number ≡ 0
-      → totalOf (steps (startOf sheet marks .run) events .run .place .sums) ≡ ticks (jobOf sheet) (marksOf marks) events
-  start-ticks events e =
-      ap (λ (p : Place). totalOf (p .sums)) (start-follows-history events e) ∙ sym (ticks-are-sums (jobOf sheet) (marksOf marks) events)
+  -- 'The ticks of all events, taken from the history, equal the five sums added.'
+  pub ticks-are-sums : (events : List Event) → ticks job f events ≡ totalOf (sumsOf job f events)
+  unfolding ticks sumsOf count totalOf total
+  ticks-are-sums events =
+      omega (arith, parts-from atStart events, balance atStart (record { inMemory = omega arith; onDisk = omega arith }) events)

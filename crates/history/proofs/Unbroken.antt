@@ -9,8 +9,6 @@ use native.Mathlib.Numerals.{add-one}
 use native.Mathlib.Omega.{arith}
 use borrow.Author.Tests.{ltb-false, le-ltb, eq-eqb, ne-eqb}
 use lib.Dec.{lit≤, eqb}
-use lib.ListN.{take}
-use lib.Seq.{take-at}
 use Rattle.refusals.specs.Numbers
 use Rattle.refusals.proofs.Refusals.{first-goes-on, refused-later}
 use Rattle.chain.specs.Time.{Marks, memory, disk}
@@ -22,19 +20,18 @@ use Rattle.job.proofs.Weights.{total-more}
 use Rattle.sheet.specs.Reading.{jobOf}
 use Rattle.sheet.proofs.Sections.{layout-passed}
 use Rattle.sheet.proofs.Readings.{sheet-layout, sheet-goes-on}
-use Rattle.marks.specs.Marks.{marksOf}
-use Rattle.state.specs.State.{totalLimit, totalOf, marksIn, marksRead, brokenValues, badAwaiting, overTotal, brokenPlace, broken, beginning, fresh}
+use Rattle.state.specs.State.{totalLimit, totalOf, marksIn, marksRead, brokenValues, badAwaiting, overTotal, brokenPlace, broken, fresh}
 use Rattle.following.specs.Run.{lastMemory, lastDisk, afterDone, afterPassed, backToMemory, backToDisk, placeAfter, nextPlace, outOfTurn, standing, stepOf}
-use Rattle.following.specs.Start.{heldMarks, startOf}
+use Rattle.following.specs.Start.{startOf}
 use Rattle.state.specs.declared.Place.{Place}
 use Rattle.state.specs.declared.Run.{Run}
 use Rattle.following.specs.declared.Event.{Event}
 use Rattle.following.specs.declared.Event.the-variants.{Done, Passed, Failed, Stopped}
 use Rattle.following.specs.declared.Stepped.{Stepped}
 use Rattle.state.proofs.Copies.{last-up-to, move-kept}
+use Rattle.state.proofs.Fresh.{cleared-taken}
 use Rattle.state.proofs.Soundness.{job-numbered, PlacePassed, run-values, run-place}
 use Rattle.following.proofs.Steps.{step-broken, task-runs}
-use Rattle.following.proofs.Starts.{start-length}
 use Rattle.history.proofs.Accepted.{Accepted, step-accepted, Begun, start-begun}
 
 -- a place that keeps the rules
@@ -95,9 +92,9 @@ accepted-unbroken run e a =
     unbroken (standing run (nextPlace run e)) (run-values run (a .unbroken)) (next-passed run (run-place run (a .unbroken)) e a)
 
 -- a refused event leaves the state
-refused-same : (run : Run) (e : Event) → (stepOf run e .number ≡ 0 → ⊥) → stepOf run e .run ≡ run
+pub step-refused-same : (run : Run) (e : Event) → (stepOf run e .number ≡ 0 → ⊥) → stepOf run e .run ≡ run
 unfolding stepOf
-refused-same run e h = rw (ne-eqb _ _ h)
+step-refused-same run e h = rw (ne-eqb _ _ h)
 
 -- a step's result is never turned down by 21, unless the state given was
 pub step-keeps-sound : (run : Run) (e : Event) → (stepOf run e .number ≡ Numbers.broken → ⊥) → broken (stepOf run e .run) ≡ false
@@ -106,29 +103,28 @@ step-keeps-sound run e h = go (ℕ-discrete (stepOf run e .number) 0) (broken ru
     go : Dec (stepOf run e .number ≡ 0) → (b : Bool) → broken run ≡ b → broken (stepOf run e .run) ≡ false
     go (yes z) b q = let a = step-accepted run e z in rw (a .next) (accepted-unbroken run e a)
     go (no z) true q = absurd (h (sym (ap (λ (s : Stepped). s .number) (step-broken run e q))))
-    go (no z) false q = rw (refused-same run e z) q
+    go (no z) false q = rw (step-refused-same run e z) q
 
 -- a start that is accepted
 module _ (sheet marks : List ℕ) (e : startOf sheet marks .number ≡ 0) where
   begun : Begun sheet marks
   begun = start-begun sheet marks e
 
-  held-read : take (jobOf sheet .tasks) (heldMarks marks) ≡ marks
-  unfolding heldMarks
-  held-read = take-at marks _ (jobOf sheet .tasks) (start-length sheet marks (begun .sheet-clear) (begun .marks-clear))
-
-  start-values : brokenValues (jobOf sheet) (take (jobOf sheet .tasks) (heldMarks marks)) ≡ false
-  unfolding brokenValues jobOf
+  start-values : brokenValues (fresh (jobOf sheet) marks .job) (marksRead (fresh (jobOf sheet) marks)) ≡ false
+  unfolding brokenValues jobOf fresh
   start-values =
       let layout = sheet-layout sheet (begun .sheet-clear) in
       let clear = first-goes-on (jobConditions (jobOf sheet)) _ (job-numbered (jobOf sheet)) (sheet-goes-on sheet layout ∙ begun .sheet-clear) ∙ begun .marks-clear in
-      rw (held-read, ← (refused-later Numbers.badCount _ refl (layout-passed sheet layout .count) (sym clear)))
+      rw (
+        begun .job,
+        cleared-taken (jobOf sheet .tasks) marks (begun .long) (begun .few),
+        ← (refused-later Numbers.badCount _ refl (layout-passed sheet layout .count) (sym clear)),
+      )
 
-  start-place : PlacePassed (jobOf sheet) (marksOf (heldMarks marks)) beginning
-  unfolding badAwaiting total totalOf
+  start-place : PlacePassed (fresh (jobOf sheet) marks .job) (marksIn (fresh (jobOf sheet) marks)) (fresh (jobOf sheet) marks .place)
+  unfolding badAwaiting total totalOf fresh
   start-place = record { position = omega arith; awaiting = refl; kept = refl; sums = lit≤ tt }
 
   -- what a start accepts, 21 accepts
   pub start-is-sound : broken (startOf sheet marks .run) ≡ false
-  unfolding fresh
-  start-is-sound = rw (begun .run) (unbroken (fresh (jobOf sheet) (heldMarks marks)) start-values start-place)
+  start-is-sound = rw (begun .run) (unbroken (fresh (jobOf sheet) marks) start-values start-place)

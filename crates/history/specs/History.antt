@@ -1,63 +1,60 @@
--- A run by its history: where it stands and what it has counted, from its job, its marks and its list of events.
--- The copies are kept explicitly: the position last saved in memory, and the position last saved on disk.
-use Prim.Native.Nat.{ℕ, _+_}
-use mathlib.Core.Bool.{cond}
+-- Where a run stands, from its marks and its list of events alone. The copies are kept explicitly: the position last saved in memory, and the one last saved
+-- on disk. Nothing here is shared with the step of a run.
+use Prim.Native.Nat.{ℕ, suc}
+use mathlib.Core.Bool.{Bool, false, not, cond}
 use mathlib.Core.List.{List, [], _∷_}
-use lib.Dec.{leb}
-use Rattle.chain.specs.Time.{Marks, memory, disk}
-use Rattle.job.specs.Job.{weightAt}
-use Rattle.job.specs.declared.Job.{Job}
-use Rattle.costs.specs.Costs.{vAt, rdAt, rmAt, verifyPaid, savesPaid}
-use Rattle.following.specs.Run.{afterDone, afterPassed, backToMemory, backToDisk}
-use Rattle.state.specs.State.{beginning}
-use Rattle.state.specs.declared.Place.{Place}
+use lib.Dec.{leb, eqb}
+use Rattle.chain.specs.Time.{Marks, memory, disk, last}
+use Rattle.state.specs.State.{marksIn}
+use Rattle.state.specs.declared.Run.{Run}
 use Rattle.following.specs.declared.Event.{Event}
 use Rattle.following.specs.declared.Event.the-variants.{Done, Passed, Failed, Stopped}
 
 pub record History : Type 0 where
-  pub place : Place
+  pub position : ℕ
+  pub awaiting : Bool
   -- the position of the memory copy
   pub inMemory : ℕ
   -- the position of the disk copy
   pub onDisk : ℕ
 
--- position 0 counts as saved on disk and in memory
+-- before task 1; position 0 counts as saved on disk and in memory
 abbrev pub atStart : History
-atStart = record { place = beginning; inMemory = 0; onDisk = 0 }
+atStart = record { position = 0; awaiting = false; inMemory = 0; onDisk = 0 }
 
--- a passed mark of 2 or 3 saves in memory, of 3 on disk; Failed goes back to the memory copy;
--- Stopped loses the memory copy and goes back to the disk copy, which is then in memory too
-unfoldable pub happened : Job → Marks → History → Event → History
-happened job f h Done = record { place = afterDone job f (h .place); inMemory = h .inMemory; onDisk = h .onDisk }
-happened job f h Passed =
+-- Done: if the task's mark is not 0, its verification is awaited. Passed: a mark of 2 or 3 saves in memory, of 3 on disk. Failed: the run stands at the memory
+-- copy. Stopped: the memory copy is lost, and the run stands at the disk copy, which is then in memory too
+unfoldable pub happened : Marks → History → Event → History
+happened f h Done =
+    record { position = suc (h .position); awaiting = not (eqb (f (suc (h .position))) 0); inMemory = h .inMemory; onDisk = h .onDisk }
+happened f h Passed =
     record {
-      place = afterPassed job f (h .place);
-      inMemory = cond (leb memory (f (h .place .position))) (h .place .position) (h .inMemory);
-      onDisk = cond (leb disk (f (h .place .position))) (h .place .position) (h .onDisk);
+      position = h .position;
+      awaiting = false;
+      inMemory = cond (leb memory (f (h .position))) (h .position) (h .inMemory);
+      onDisk = cond (leb disk (f (h .position))) (h .position) (h .onDisk);
     }
-happened job f h Failed = record { place = backToMemory job (h .place) (h .inMemory); inMemory = h .inMemory; onDisk = h .onDisk }
-happened job f h (Stopped lost) =
-    record { place = backToDisk job (h .place) (h .onDisk) lost; inMemory = h .onDisk; onDisk = h .onDisk }
+happened f h Failed = record { position = h .inMemory; awaiting = false; inMemory = h .inMemory; onDisk = h .onDisk }
+happened f h (Stopped lost) = record { position = h .onDisk; awaiting = false; inMemory = h .onDisk; onDisk = h .onDisk }
 
-unfoldable pub historyFrom : Job → Marks → History → List Event → History
-historyFrom job f h [] = h
-historyFrom job f h (e ∷ es) = historyFrom job f (happened job f h e) es
+unfoldable pub historyFrom : Marks → History → List Event → History
+historyFrom f h [] = h
+historyFrom f h (e ∷ es) = historyFrom f (happened f h e) es
 
 -- the history of a run's events
-unfoldable pub history : Job → Marks → List Event → History
-history job f events = historyFrom job f atStart events
+unfoldable pub history : Marks → List Event → History
+history f events = historyFrom f atStart events
 
--- the ticks that an event takes: the task's weight, the mark's payments, V and R_M', or the lost ticks and R_D'
-unfoldable pub ticksOf : Job → Marks → History → Event → ℕ
-ticksOf job f h Done = weightAt (job .weights) (h .place .position)
-ticksOf job f h Passed = verifyPaid job (f (h .place .position)) (h .place .position) + savesPaid job (f (h .place .position)) (h .place .position)
-ticksOf job f h Failed = vAt job (h .place .position) + rmAt job (h .inMemory)
-ticksOf job f h (Stopped lost) = lost + rdAt job (h .onDisk)
+-- the marks that a state has passed are those before this position: its own while its verification is awaited, or the next
+abbrev pub passedBefore : Run → ℕ
+passedBefore run = cond (run .place .awaiting) (run .place .position) (suc (run .place .position))
 
-unfoldable pub ticksFrom : Job → Marks → History → List Event → ℕ
-ticksFrom job f h [] = 0
-ticksFrom job f h (e ∷ es) = ticksOf job f h e + ticksFrom job f (happened job f h e) es
-
--- the ticks of all events
-unfoldable pub ticks : Job → Marks → List Event → ℕ
-ticks job f events = ticksFrom job f atStart events
+-- a state as a history that goes on: the copies are the last ones that the marks passed have saved
+unfoldable pub historyAt : Run → History
+historyAt run =
+    record {
+      position = run .place .position;
+      awaiting = run .place .awaiting;
+      inMemory = last memory (marksIn run) (passedBefore run);
+      onDisk = last disk (marksIn run) (passedBefore run);
+    }

@@ -1,3 +1,4 @@
 pub mod Events
 pub mod History
+pub mod Counts
 pub mod Working

@@ -61,6 +61,12 @@ getD-tabulate (suc n) f j h = go (eq-or-lt-of-le (le-of-suc-le-suc h)) (getD-tab
     go (inl q) ih = rw q (getD-at (tabulate n f) (f n) [] 0 n (length-tabulate n f))
     go (inr q) ih = List·getD-append (tabulate n f) (f n ∷ []) 0 j (rw (length-tabulate n f) q) ∙ ih q
 
+-- the lists of two functions that agree below n
+pub tabulate-same : (n : ℕ) (f g : ℕ → ℕ) → ((i : ℕ) → i < n → f i ≡ g i) → tabulate n f ≡ tabulate n g
+unfolding tabulate
+tabulate-same zero f g e = refl
+tabulate-same (suc n) f g e = rw (tabulate-same n f g (λ i h. e i (omega arith)), e n (omega arith))
+
 -- storing g at j turns the list of f into that of g, where the two agree elsewhere
 pub set-tabulate : (n : ℕ) (f g : ℕ → ℕ) (j : ℕ) → j < n → ((i : ℕ) → (i ≡ j → ⊥) → f i ≡ g i) → set (tabulate n f) j (g j) ≡ tabulate n g
 set-tabulate n f g j h same =

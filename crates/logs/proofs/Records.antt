@@ -1,7 +1,7 @@
 -- Records of a log. A record is a part of 5 bytes, or what is left of the log; a record more is one step more while nothing is refused, and after a refusal the answer stays.
 -- Assumes nothing.
 use Prim.Native.Nat.{ℕ, zero, suc, _+_, _-_, _*_, _≤_, _<_}
-use mathlib.Core.Path.{_≡_, sym, _∙_}
+use mathlib.Core.Path.{_≡_, refl, sym, _∙_}
 use mathlib.Core.Bool.{true, false}
 use mathlib.Core.List.{List}
 use mathlib.Core.Logic.{_⊎_, inl, inr}
@@ -30,7 +30,7 @@ module _ (log : List ℕ) (i : ℕ) where
   record-whole = let e : recordLength * i + recordLength - recordLength * i ≡ recordLength = omega arith in rw e
 
 -- after a refusal nothing is read
-recorded-refused : (s : Stepped) (r : List ℕ) → (s .number ≡ 0 → ⊥) → recorded s r ≡ s
+pub recorded-refused : (s : Stepped) (r : List ℕ) → (s .number ≡ 0 → ⊥) → recorded s r ≡ s
 unfolding recorded
 recorded-refused s r h = rw (ne-eqb _ _ h)
 
@@ -47,6 +47,15 @@ pub accepted-is : (a : Stepped) → a .number ≡ 0 → a ≡ accepted (a .run)
 accepted-is a e = rw (← e)
 
 module _ (run : Run) (log : List ℕ) where
+  -- no record, and one record more
+  pub applied-zero : applied run log zero ≡ accepted run
+  unfolding applied
+  applied-zero = refl
+
+  pub applied-suc : (k : ℕ) → applied run log (suc k) ≡ recorded (applied run log k) (recordAt log k)
+  unfolding applied
+  applied-suc k = refl
+
   pub applied-stays : (k n : ℕ) → k ≤ n → (applied run log k .number ≡ 0 → ⊥) → applied run log n ≡ applied run log k
   unfolding applied
   applied-stays k zero h r = let e : k ≡ 0 = omega arith in rw e

@@ -1,21 +1,24 @@
 -- What 21 leaves of a state: its values pass 3 and 7 to 10, and its place keeps the rules. Each test that fails is read back as its fact.
 -- Assumes nothing.
-use Prim.Native.Nat.{ℕ, _≤_}
+use Prim.Native.Nat.{ℕ, zero, suc, _≤_}
 use mathlib.Core.Path.{_≡_, refl}
 use mathlib.Core.Bool.{false, not}
 use mathlib.Core.List.{List}
 use borrow.Author.Tests.{ltb-false, eqb-true, not-false}
+use native.Mathlib.Omega.{arith}
 use lib.Dec.{ltb, eqb}
+use lib.Seq.{getD-take}
 use Rattle.lists.proofs.Lists.{or-fails}
 use Rattle.refusals.specs.Refusals.{first, has, distinct, Numbered}
 use Rattle.refusals.proofs.Refusals.{first-clear}
-use Rattle.chain.specs.Time.{Marks}
+use Rattle.chain.specs.Time.{Marks, disk}
 use Rattle.job.specs.Job.{total}
 use Rattle.job.specs.Checks.{badCount, badValue, badTask, jobConditions}
 use Rattle.job.specs.Working.Sound.{Sound}
 use Rattle.job.specs.declared.Job.{Job}
 use Rattle.job.proofs.Ranges.{job-sound}
 use Rattle.marks.specs.Marks.{badMarks, badStretches}
+use Rattle.marks.proofs.Stretches.{marks-range}
 use Rattle.state.specs.State.{totalLimit, totalOf, marksIn, marksRead, valueConditions, brokenValues, badAwaiting, overTotal, brokenPlace, broken}
 use Rattle.state.specs.Working.Sound.{SoundRun}
 use Rattle.state.specs.declared.Place.{Place}
@@ -88,3 +91,10 @@ module _ (run : Run) (right : broken run ≡ false) where
         kept = run-place .kept;
         sums = run-place .sums;
       }
+
+  -- no mark up to position n is above 3
+  pub run-marks : (p : ℕ) → p ≤ run .job .tasks → marksIn run p ≤ disk
+  run-marks zero h = omega arith
+  run-marks (suc j) h =
+      rw (← (getD-take (run .job .tasks) (run .marks) j 0 h))
+      (marks-range (run .job .tasks) (marksRead run) (passed (run .job) (marksRead run) run-values .marks-right) j h)

@@ -1,9 +1,11 @@
 -- The state of a run: the fresh one, the one with every field 0, and refusals 21 and 22 of document 01.
-use Prim.Native.Nat.{ℕ, _+_, _^_}
-use mathlib.Core.Bool.{Bool, false, not, _||_, _&&_}
+use Prim.Native.Nat.{ℕ, _+_, _^_, _≤_}
+use mathlib.Core.Path.{_≡_}
+use mathlib.Core.Bool.{Bool, false, not, _||_, _&&_, cond}
 use mathlib.Core.List.{List, _∷_, _++_}
 use lib.Dec.{ltb, eqb}
-use lib.ListN.{take, replicate}
+use lib.ListN.{getD, take, replicate}
+use Rattle.lists.specs.Lists.{tabulate}
 use Rattle.refusals.specs.Numbers
 use Rattle.refusals.specs.Refusals.{Condition, refusal, first}
 use Rattle.chain.specs.Time.{Marks}
@@ -19,9 +21,23 @@ use Rattle.state.specs.declared.Run.{Run}
 abbrev pub beginning : Place
 beginning = record { position = 0; awaiting = false; sums = record { kept = 0; redone = 0; verify = 0; saves = 0; recovery = 0 } }
 
--- a fresh run stands before task 1 with all five sums at 0; the entries past task n are those given, and `start` gives 0
+-- the first n entries of a list, and 0 past them
+unfoldable pub cleared : ℕ → List ℕ → List ℕ
+cleared n l = tabulate taskLimit (λ j. cond (ltb j n) (getD l j 0) 0)
+
+-- a fresh run stands before task 1 with all five sums at 0; entries past task n are 0
 unfoldable pub fresh : Job → List ℕ → Run
-fresh job marks = record { job = job; marks = marks; place = beginning }
+fresh job marks =
+    record {
+      job = record { tasks = job .tasks; platform = job .platform; weights = cleared (job .tasks) (job .weights) };
+      marks = cleared (job .tasks) marks;
+      place = beginning;
+    }
+
+-- entries past task n are 0
+pub record ZeroPast (run : Run) : Type 0 where
+  pub weights : (j : ℕ) → run .job .tasks ≤ j → getD (run .job .weights) j 0 ≡ 0
+  pub marks : (j : ℕ) → run .job .tasks ≤ j → getD (run .marks) j 0 ≡ 0
 
 -- the state with every field 0
 unfoldable pub zeroRun : Run

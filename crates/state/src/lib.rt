@@ -1,6 +1,7 @@
 // The state of a run: its values and marks, where it stands, its five sums, and what document 01 asks of it (refusals 21 and 22).
 ghost use mathlib.Core.Path.{_≡_};
-ghost use Rattle.state.specs.State.{fresh, zeroRun};
+ghost use Rattle.state.specs.State.{beginning, cleared, fresh, zeroRun};
+ghost use Rattle.state.specs.Working.Entries.{Entries};
 
 pub mod positions;
 pub mod rules;
@@ -34,29 +35,85 @@ pub struct Run {
     pub place: Place,
 }
 
+// How many entries of a list a fresh run takes: those of its tasks, as far as the list and the room go.
+fn entries(n: usize, length: usize) -> usize
+    ensures { λ r. ⌜ Entries n length r ⌝ }
+{
+    let mut most = TASK_LIMIT;
+    if n < most {
+        most = n;
+    }
+    if length < most {
+        most = length;
+    }
+    most
+}
+
+// The weights of n tasks, and 0 past them.
+fn first_weights(weights: [u32; TASK_LIMIT], n: usize) -> [u32; TASK_LIMIT]
+    ensures { λ r. ⌜ r ≡ cleared n weights ⌝ }
+{
+    let most = entries(n, TASK_LIMIT);
+    let mut held = [0u32; TASK_LIMIT];
+    let mut j: usize = 0;
+    while j < most {
+        held[j] = weights[j];
+        j += 1;
+    }
+    held
+}
+
+// The marks of n tasks, and 0 past them.
+fn first_marks(marks: &[u8], n: usize) -> [u8; TASK_LIMIT]
+    ensures { λ r. ⌜ r ≡ cleared n (now (marks .entry)) ⌝ }
+{
+    let most = entries(n, marks.len());
+    let mut held = [0u8; TASK_LIMIT];
+    let mut j: usize = 0;
+    while j < most {
+        held[j] = marks[j];
+        j += 1;
+    }
+    held
+}
+
+impl Place {
+    // Before task 1, with all five sums at 0.
+    pub fn beginning() -> Place
+        ensures { λ r. ⌜ r ≡ beginning ⌝ }
+    {
+        Place {
+            position: 0,
+            awaiting: false,
+            sums: Sums {
+                kept: 0,
+                redone: 0,
+                verify: 0,
+                saves: 0,
+                recovery: 0,
+            },
+        }
+    }
+}
+
 impl Run {
     pub const MAX_POSITION: usize = TASK_LIMIT;
 
     pub const MAX_TOTAL: u64 = 1 << 40;
 
-    // A fresh run stands before task 1 with all five sums at 0. Entries past task n are those given.
-    pub fn fresh(job: Job, marks: [u8; TASK_LIMIT]) -> Run
-        ensures { λ r. ⌜ r ≡ fresh job marks ⌝ }
+    // A fresh run stands before task 1 with all five sums at 0. Entries past task n are 0.
+    pub fn fresh(job: Job, marks: &[u8]) -> Run
+        ensures { λ r. ⌜ r ≡ fresh job (now (marks .entry)) ⌝ }
     {
+        let given = job.weights;
+        let weights = first_weights(given, job.tasks);
+        let held = first_marks(marks, job.tasks);
+        let mut own = job;
+        own.weights = weights;
         Run {
-            job,
-            marks,
-            place: Place {
-                position: 0,
-                awaiting: false,
-                sums: Sums {
-                    kept: 0,
-                    redone: 0,
-                    verify: 0,
-                    saves: 0,
-                    recovery: 0,
-                },
-            },
+            job: own,
+            marks: held,
+            place: Place::beginning(),
         }
     }
 
@@ -64,6 +121,10 @@ impl Run {
     pub fn zero() -> Run
         ensures { λ r. ⌜ r ≡ zeroRun ⌝ }
     {
-        Run::fresh(Job::zero(), [0u8; Run::MAX_POSITION])
+        Run {
+            job: Job::zero(),
+            marks: [0u8; TASK_LIMIT],
+            place: Place::beginning(),
+        }
     }
 }

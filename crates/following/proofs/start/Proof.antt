@@ -1,9 +1,9 @@
--- `following::start` meets its contract. The sheet's refusal decides, then that of the marks; accepted marks are as many as the tasks, so they fit the state. Assumes nothing.
+-- `following::start` meets its contract. The sheet's refusal decides, then that of the marks. Assumes nothing.
 use mathlib.Core.Path.{sym, _∙_, ap}
 use Rattle.refusals.specs.Refusals.{first}
 use Rattle.job.specs.declared.Job.{Job}
 use Rattle.marks.specs.Marks.{marksConditions}
-use Rattle.following.proofs.Starts.{sheet-read, start-by-sheet, start-refused, start-accepted, start-fits}
+use Rattle.following.proofs.Starts.{sheet-read, start-by-sheet, start-refused, start-accepted}
 use borrow.Author.Needs.{needs}
 use Rattle.following.proofs.start.Statement.{statement}
 use Rattle.following.proofs.start.Tie as tie
@@ -44,32 +44,20 @@ returns-2 c =
     let number = marks-refusal .ensures ∙ ap (λ (j : Job). first (marksConditions j (args .marks .now))) (read .job) in
     refused-start2 .ensures ∙ start-refused (args .sheet .now) (args .marks .now) (read .clear) (marks-refusal .result) number (if2 .taken)
 
-held-marks-requires : tie.Need-held-marks-requires
-held-marks-requires c κs =
-    let args = c .before .before .before .before .before .before .before .args in
-    let read-job = c .before .before .before .before .read-job in
-    let if1 = c .before .before .if1 in
-    let marks-refusal = c .before .marks-refusal in
-    let if2 = c .if2 in
-    let read = sheet-read (args .sheet .now) (read-job .result) (read-job .ensures) (if1 .left) in
-    let number = marks-refusal .ensures ∙ ap (λ (j : Job). first (marksConditions j (args .marks .now))) (read .job) in
-    start-fits (args .sheet .now) (args .marks .now) (read .clear) (sym number ∙ if2 .left)
-
 fresh-requires : tie.Need-fresh-requires
 fresh-requires c κs = search needs
 
 returns-3 : tie.Need-returns-3
 returns-3 c =
-    let args = c .before .before .before .before .before .before .before .before .before .args in
-    let read-job = c .before .before .before .before .before .before .read-job in
-    let if1 = c .before .before .before .before .if1 in
-    let marks-refusal = c .before .before .before .marks-refusal in
+    let args = c .before .before .before .before .before .before .before .before .args in
+    let read-job = c .before .before .before .before .before .read-job in
+    let if1 = c .before .before .before .if1 in
+    let marks-refusal = c .before .before .marks-refusal in
     let fresh = c .fresh in
-    let held-marks = c .before .held-marks in
-    let if2 = c .before .before .if2 in
+    let if2 = c .before .if2 in
     let read = sheet-read (args .sheet .now) (read-job .result) (read-job .ensures) (if1 .left) in
     let number = marks-refusal .ensures ∙ ap (λ (j : Job). first (marksConditions j (args .marks .now))) (read .job) in
-    rw (fresh .ensures, held-marks .ensures, read .job) (start-accepted (args .sheet .now) (args .marks .now) (read .clear) (sym number ∙ if2 .left))
+    rw (fresh .ensures, read .job) (start-accepted (args .sheet .now) (args .marks .now) (read .clear) (sym number ∙ if2 .left))
 
 pub start-spec : {M : Type 1} → statement M
 start-spec =
@@ -81,6 +69,5 @@ start-spec =
     marks-refusal-requires
     refused-start-requires-2
     returns-2
-    held-marks-requires
     fresh-requires
     returns-3)

@@ -1,7 +1,7 @@
 -- `marks::bad_stretches` meets its contract. The loop's invariant: `heaviest` decides for every stretch that ended, and `weight` is the weight since the last
 -- marked position. The measure is what is left of the tasks. Assumes nothing.
 use Prim.Native.Nat.{_-_, _≤_}
-use mathlib.Core.Path.{_≡_, sym, _∙_, ap}
+use mathlib.Core.Path.{sym, _∙_, ap}
 use mathlib.Core.Bool.{not}
 use mathlib.Core.Logic.{⊎-elim}
 use native.Mathlib.Nat.{pos-of-ne-zero}

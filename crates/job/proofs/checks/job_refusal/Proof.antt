@@ -1,6 +1,5 @@
 -- `job::checks::job_refusal` meets its contract. Checks 7 and 8 by the branches, in their order: each return names the first to hold. Assumes nothing.
-use mathlib.Core.Path.{_≡_, sym, _∙_, ap}
-use mathlib.Core.Bool.{not}
+use mathlib.Core.Path.{_≡_, sym, _∙_}
 use native.Mathlib.Omega.{arith}
 use borrow.Author.Needs.{needs}
 use lib.ListN.{length}

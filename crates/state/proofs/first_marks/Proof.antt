@@ -1,0 +1,62 @@
+-- `state::first_marks` meets its contract. The loop's invariant: the entries passed are the marks, and 0 stands in the others. The measure is what is left of
+-- the entries. Assumes nothing.
+use Prim.Native.Nat.{_-_, _≤_}
+use mathlib.Core.Path.{_≡_, refl, _∙_}
+use native.Mathlib.Omega.{arith}
+use borrow.Author.Needs.{needs}
+use Rattle.lists.specs.Lists.{tabulate}
+use Rattle.state.specs.State.{cleared}
+use Rattle.state.proofs.Fresh.{cleared-more, cleared-all}
+use Rattle.state.proofs.first_marks.Statement.{statement}
+use Rattle.state.proofs.first_marks.Tie as tie
+
+abbrev Inv-loop : tie.InvT-loop
+Inv-loop marks n most held₀ j₀ held j = (j ≤ most) × (held ≡ cleared j marks)
+
+abbrev μ-loop : tie.MeasureT-loop
+μ-loop marks n most held₀ j₀ held j = most - j
+
+entries-requires : tie.Need-entries-requires Inv-loop μ-loop
+entries-requires c κs = search needs
+
+loop-holds : tie.Need-loop-holds Inv-loop μ-loop
+unfolding cleared tabulate
+loop-holds c = (search needs, refl)
+
+shared-slice-read-held : tie.Need-shared-slice-read-held Inv-loop μ-loop
+shared-slice-read-held c = omega (arith, c .before .before .before .entries .ensures .list)
+
+array-write-held : tie.Need-array-write-held Inv-loop μ-loop
+array-write-held c = omega (arith, c .before .before .before .entries .ensures .room)
+
+add-j : tie.Need-add-j Inv-loop μ-loop
+add-j c = omega (arith, c .before .before .before .entries .ensures .room)
+
+loop-less : tie.Need-loop-less Inv-loop μ-loop
+loop-less c = omega arith
+
+loop-again : tie.Need-loop-again Inv-loop μ-loop
+loop-again c = (omega arith, rw (c .before .before .loop .inv .1) (cleared-more _ _ (omega (arith, c .before .before .before .entries .ensures .room))))
+
+returns : tie.Need-returns Inv-loop μ-loop
+returns c =
+    let loop = c .before .loop in
+    let entries = c .before .before .entries in
+    let args = c .before .before .before .before .args in
+    let e : loop .j ≡ entries .result = omega arith in
+    loop .inv .1 ∙ rw e (cleared-all (args .marks .now) (args .n) (entries .result) (entries .ensures))
+
+pub first-marks-spec : {M : Type 1} → statement M
+first-marks-spec =
+    tie.close
+    (tie.spec
+    Inv-loop
+    μ-loop
+    entries-requires
+    loop-holds
+    shared-slice-read-held
+    array-write-held
+    add-j
+    loop-less
+    loop-again
+    returns)
