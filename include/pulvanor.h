@@ -1,0 +1,118 @@
+/* The library of Pulvanor for C and other languages, on x86-64 Linux.
+
+   `rt staticlib pulvanor` writes target/staticlib/libpulvanor.a; compile with this header and link with it:
+
+       cc -Iinclude program.c target/staticlib/libpulvanor.a
+
+   Every function takes every value of its arguments, with two exceptions that only a caller in C can break:
+   a pointer and the length after it are those of memory that can be read (and, for a buffer, written) and
+   that nothing else writes meanwhile, the pointer not null even where the length is 0; and `awaiting` in a
+   state is 0 or 1. Nothing is kept between two calls, no memory is asked for, and threads may call at once.
+
+   `number` in an answer is 0 if the call is accepted, and else the one refusal of document 01 whose condition
+   is the first to hold. */
+#ifndef PULVANOR_H
+#define PULVANOR_H
+
+#include <stddef.h>
+#include <stdint.h>
+
+#ifdef __cplusplus
+extern "C" {
+#endif
+
+#define PULVANOR_TASKS 64                     /* the most tasks of a sheet */
+#define PULVANOR_SHEET 4096                   /* the most bytes of a sheet */
+#define PULVANOR_RECORD 5                     /* the bytes of a log's record */
+#define PULVANOR_TIME ((1ULL << 34) - 1)      /* the longest time that is given */
+
+/* 0 and a time in ticks, or a refusal and time 0. */
+struct pulvanor_answer {
+    uint64_t number;
+    uint64_t time;
+};
+
+/* 0 and a section of the sheet, its kind byte included, or a refusal and 0, 0. */
+struct pulvanor_found {
+    uint64_t number;
+    size_t start;
+    size_t size;
+};
+
+/* The platform section of a sheet. */
+struct pulvanor_platform {
+    uint32_t failstop;                        /* rates: r means r / 2^48 errors a tick */
+    uint32_t silent;
+    uint32_t cd;                              /* ticks: a copy on disk, a copy in memory, a verification, */
+    uint32_t cm;
+    uint32_t v;
+    uint32_t rd;                              /* going back to a copy on disk, to one in memory */
+    uint32_t rm;
+};
+
+/* The values of a sheet. Weights past task n are 0 in a fresh run and never read. */
+struct pulvanor_job {
+    size_t tasks;
+    struct pulvanor_platform platform;
+    uint32_t weights[PULVANOR_TASKS];
+};
+
+/* What a run has counted, in ticks. */
+struct pulvanor_sums {
+    uint64_t kept;
+    uint64_t redone;
+    uint64_t verify;
+    uint64_t saves;
+    uint64_t recovery;
+};
+
+/* Where a run stands: after so many tasks, and whether the verification there is awaited (1) or not (0). */
+struct pulvanor_place {
+    size_t position;
+    uint8_t awaiting;
+    struct pulvanor_sums sums;
+};
+
+/* The state of a run. Marks past task n are 0 in a fresh run and never read. */
+struct pulvanor_run {
+    struct pulvanor_job job;
+    uint8_t marks[PULVANOR_TASKS];
+    struct pulvanor_place place;
+};
+
+/* A start: 0 and the fresh run, or a refusal and a state with every field 0.
+   A log: 0 and the state after its records, or a refusal and the state given. */
+struct pulvanor_outcome {
+    uint64_t number;
+    struct pulvanor_run run;
+};
+
+/* G(y) and H(y), in units of 2^-24; 0 for y above 2^26, which no sum equals. */
+uint64_t pulvanor_growth(uint64_t y);
+uint64_t pulvanor_mean_growth(uint64_t y);
+
+/* The section of this kind, 1 (platform) or 2 (weights). Refusals 1 to 6; 6 for any other kind. */
+struct pulvanor_found pulvanor_lookup(const uint8_t *sheet, size_t sheet_length, uint64_t kind);
+
+/* The time of the sheet under these marks, D(n) of document 01. Refusals 1 to 10 and 13. */
+struct pulvanor_answer pulvanor_price(const uint8_t *sheet, size_t sheet_length, const uint8_t *marks, size_t marks_length);
+
+/* The least time of all allowed settings of the sheet; the setting's marks, one byte a task, are the first n
+   bytes of the buffer. Refusals 1 to 8, 11 (the buffer is shorter than n) and 13 (every allowed setting is too
+   slow). A refusal writes no byte, and later bytes are never touched. */
+struct pulvanor_answer pulvanor_plan(const uint8_t *sheet, size_t sheet_length, uint8_t *buffer, size_t buffer_length);
+
+/* The fresh run of the sheet under these marks. Refusals 1 to 10. */
+struct pulvanor_outcome pulvanor_start(const uint8_t *sheet, size_t sheet_length, const uint8_t *marks, size_t marks_length);
+
+/* The records of a log, read and applied in turn from the state given; one record is one event. A record is a
+   code (1 Done, 2 Passed, 3 Failed, 4 Stopped), then the lost ticks, 4 bytes, lowest first, 0 except for code
+   4. Refusals 12 and 21 to 25; the first of them hands back the state given. 21 is tested even for an empty
+   log. */
+struct pulvanor_outcome pulvanor_follow(struct pulvanor_run run, const uint8_t *log, size_t log_length);
+
+#ifdef __cplusplus
+}
+#endif
+
+#endif

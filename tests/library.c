@@ -1,0 +1,84 @@
+/* The calls of the library from C: prints what they give for sheet A of document 01 and for what is refused. */
+#include <stdio.h>
+#include "pulvanor.h"
+
+static const uint8_t sheet[58] = {
+    1, 2, 2, 0, 20, 0, 0, 0, 29, 0, 0, 0, 49, 0, 0, 0, 9, 0, 0, 0,
+    1, 0, 0, 0, 0, 0, 0, 0, 128, 136, 19, 0, 0, 232, 3, 0, 0, 160, 3, 0, 0, 160, 15, 0, 0, 232, 3, 0, 0,
+    2, 0, 0, 2, 0, 0, 0, 2, 0,
+};
+static const uint8_t marks[2] = {2, 3};
+
+static void answer(const char *name, struct pulvanor_answer a) {
+    printf("%s: number %llu, time %llu\n", name, (unsigned long long)a.number, (unsigned long long)a.time);
+}
+
+static void outcome(const char *name, struct pulvanor_outcome o) {
+    const struct pulvanor_place *p = &o.run.place;
+    printf("%s: number %llu, position %zu, awaiting %d", name, (unsigned long long)o.number, p->position, p->awaiting);
+    printf(", kept %llu, redone %llu", (unsigned long long)p->sums.kept, (unsigned long long)p->sums.redone);
+    printf(", verify %llu, saves %llu", (unsigned long long)p->sums.verify, (unsigned long long)p->sums.saves);
+    printf(", recovery %llu\n", (unsigned long long)p->sums.recovery);
+}
+
+static void planned(const char *name, size_t room) {
+    uint8_t buffer[4] = {9, 9, 9, 9};
+    answer(name, pulvanor_plan(sheet, sizeof sheet, buffer, room));
+    printf("  buffer %d %d %d %d\n", buffer[0], buffer[1], buffer[2], buffer[3]);
+}
+
+static void found(const char *name, uint64_t kind) {
+    struct pulvanor_found f = pulvanor_lookup(sheet, sizeof sheet, kind);
+    printf("%s: number %llu, start %zu, size %zu\n", name, (unsigned long long)f.number, f.start, f.size);
+}
+
+/* Whether every field of a state is 0. */
+static int all_zero(const struct pulvanor_run *r) {
+    const struct pulvanor_platform *p = &r->job.platform;
+    const struct pulvanor_sums *s = &r->place.sums;
+    uint64_t some = r->job.tasks | p->failstop | p->silent | p->cd | p->cm | p->v | p->rd | p->rm;
+    size_t t;
+    for (t = 0; t < PULVANOR_TASKS; t++)
+        some |= r->job.weights[t] | r->marks[t];
+    some |= r->place.position | r->place.awaiting | s->kept | s->redone | s->verify | s->saves | s->recovery;
+    return some == 0;
+}
+
+int main(void) {
+    static const uint8_t all[30] = {
+        1, 0, 0, 0, 0, 2, 0, 0, 0, 0, 1, 0, 0, 0, 0, 3, 0, 0, 0, 0, 1, 0, 0, 0, 0, 2, 0, 0, 0, 0,
+    };
+    static const uint8_t stopped[15] = {1, 0, 0, 0, 0, 2, 0, 0, 0, 0, 4, 244, 1, 0, 0};
+    struct pulvanor_outcome start = pulvanor_start(sheet, sizeof sheet, marks, sizeof marks);
+    struct pulvanor_outcome refused = pulvanor_start(sheet, sizeof sheet, marks, 1);
+    struct pulvanor_outcome first = pulvanor_follow(start.run, all, 15);
+    struct pulvanor_run moved = start.run;
+    size_t t;
+    int past = 0;
+
+    printf("growth: %llu %llu", (unsigned long long)pulvanor_growth(1), (unsigned long long)pulvanor_growth(1 << 24));
+    printf(" %llu\n", (unsigned long long)pulvanor_growth((1 << 26) + 1));
+    printf("mean growth: %llu\n", (unsigned long long)pulvanor_mean_growth(1));
+    found("platform", 1);
+    found("weights", 2);
+    found("kind 3", 3);
+    answer("price of 23", pulvanor_price(sheet, sizeof sheet, marks, sizeof marks));
+    answer("price of 2", pulvanor_price(sheet, sizeof sheet, marks, 1));
+    answer("price of a cut sheet", pulvanor_price(sheet, 57, marks, sizeof marks));
+    planned("plan", 4);
+    planned("plan, short buffer", 1);
+    outcome("start", start);
+    for (t = 2; t < PULVANOR_TASKS; t++)
+        past += start.run.job.weights[t] != 0 || start.run.marks[t] != 0;
+    printf("entries past task 2 that are not 0: %d\n", past);
+    outcome("refused start", refused);
+    printf("its state is all 0: %s\n", all_zero(&refused.run) ? "yes" : "no");
+    outcome("six events", pulvanor_follow(start.run, all, sizeof all));
+    outcome("three of them", first);
+    outcome("then the other three", pulvanor_follow(first.run, all + 15, 15));
+    outcome("stopped", pulvanor_follow(start.run, stopped, sizeof stopped));
+    outcome("a record cut short", pulvanor_follow(start.run, all, 14));
+    moved.place.position = 1;
+    outcome("a state that breaks a rule", pulvanor_follow(moved, all, 0));
+    return 0;
+}
