@@ -4,10 +4,10 @@
 
        cc -Iinclude program.c target/staticlib/libpulvanor.a
 
-   Every function takes every value of its arguments, with two exceptions that only a caller in C can break:
-   a pointer and the length after it are those of memory that can be read (and, for a buffer, written) and
-   that nothing else writes meanwhile, the pointer not null even where the length is 0; and `awaiting` in a
-   state is 0 or 1. Nothing is kept between two calls, no memory is asked for, and threads may call at once.
+   Every function takes every value of its arguments. Of a pointer and the length after it C itself asks that
+   they are those of memory that can be read (and, for a buffer, written), that nothing else writes it
+   meanwhile, and that the pointer is not null even where the length is 0. Nothing is kept between two calls,
+   no memory is asked for, and threads may call at once.
 
    `number` in an answer is 0 if the call is accepted, and else the one refusal of document 01 whose condition
    is the first to hold. */
@@ -66,7 +66,8 @@ struct pulvanor_sums {
     uint64_t recovery;
 };
 
-/* Where a run stands: after so many tasks, and whether the verification there is awaited (1) or not (0). */
+/* Where a run stands: after so many tasks, and whether the verification there is awaited. Any byte that is not
+   0 says that it is; the library writes 1. */
 struct pulvanor_place {
     size_t position;
     uint8_t awaiting;

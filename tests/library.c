@@ -52,7 +52,7 @@ int main(void) {
     struct pulvanor_outcome start = pulvanor_start(sheet, sizeof sheet, marks, sizeof marks);
     struct pulvanor_outcome refused = pulvanor_start(sheet, sizeof sheet, marks, 1);
     struct pulvanor_outcome first = pulvanor_follow(start.run, all, 15);
-    struct pulvanor_run moved = start.run;
+    struct pulvanor_run moved;
     size_t t;
     int past = 0;
 
@@ -78,6 +78,11 @@ int main(void) {
     outcome("then the other three", pulvanor_follow(first.run, all + 15, 15));
     outcome("stopped", pulvanor_follow(start.run, stopped, sizeof stopped));
     outcome("a record cut short", pulvanor_follow(start.run, all, 14));
+    moved = first.run;
+    moved.place.awaiting = 7;
+    outcome("awaiting 7 and no record", pulvanor_follow(moved, all, 0));
+    outcome("awaiting 7, then failed", pulvanor_follow(moved, all + 15, 5));
+    moved = start.run;
     moved.place.position = 1;
     outcome("a state that breaks a rule", pulvanor_follow(moved, all, 0));
     return 0;

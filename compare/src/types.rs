@@ -48,8 +48,15 @@ pub struct Sums {
 #[repr(C)]
 pub struct Place {
     pub position: usize,
-    pub awaiting: bool,
+    /// Not 0 while the verification of this position is awaited.
+    pub awaiting: u8,
     pub sums: Sums,
+}
+
+impl Place {
+    pub fn awaits(&self) -> bool {
+        self.awaiting != 0
+    }
 }
 
 /// The state of a run.

@@ -15,7 +15,7 @@ fn running(run: &Run) -> u32 {
 /// An event that is in turn.
 fn in_turn(r: &mut Random, run: &Run) -> Event {
     let smooth = r.chance(80);
-    match (run.place.awaiting, smooth) {
+    match (run.place.awaits(), smooth) {
         (true, true) => Event::Passed,
         (true, false) => Event::Failed,
         (false, true) => Event::Done,
@@ -85,17 +85,19 @@ fn change_sheet_value(r: &mut Random, run: &mut Run) {
 
 fn change_place(r: &mut Random, run: &mut Run) {
     let (job, place) = (&run.job, &mut run.place);
-    match r.below(6) {
+    match r.below(7) {
         0 => place.position = r.pick(&[64, 65, usize::MAX, job.tasks.wrapping_add(1)]),
         1 => place.position = r.index(MAX_TASKS + 1),
-        2 => place.awaiting = !place.awaiting,
-        3 => place.sums.kept = place.sums.kept.wrapping_add(1),
-        4 => place.sums.kept = place.sums.kept.wrapping_sub(1),
+        2 => place.awaiting = u8::from(!place.awaits()),
+        // Any byte that is not 0 says the same as 1.
+        3 => place.awaiting = r.between(1, 255) as u8,
+        4 => place.sums.kept = place.sums.kept.wrapping_add(1),
+        5 => place.sums.kept = place.sums.kept.wrapping_sub(1),
         // Another position whose kept fits it.
         _ => {
             place.position = r.index(job.tasks.min(MAX_TASKS) + 1);
             place.sums.kept = job.weight(0, place.position) as u64;
-            place.awaiting = r.chance(50);
+            place.awaiting = r.pick(&[0, 0, 1, 2, 255]);
         }
     }
 }

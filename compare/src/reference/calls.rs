@@ -19,7 +19,7 @@ const ZERO: Run = Run {
         weights: [0; MAX_TASKS],
     },
     marks: [0; MAX_TASKS],
-    place: Place { position: 0, awaiting: false, sums: Sums::ZERO },
+    place: Place { position: 0, awaiting: 0, sums: Sums::ZERO },
 };
 
 fn answer(result: Result<u64, Refusal>) -> Answer {

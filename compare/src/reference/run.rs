@@ -9,7 +9,7 @@ use crate::types::{Event, Job, Place, Refusal, Run, Sums, MAX_TASKS};
 pub const MAX_TOTAL: u128 = 1 << 40;
 
 fn fresh(job: Job, marks: &[u8]) -> Run {
-    let place = Place { position: 0, awaiting: false, sums: Sums::ZERO };
+    let place = Place { position: 0, awaiting: 0, sums: Sums::ZERO };
     let mut run = Run { job, marks: [0; MAX_TASKS], place };
     run.marks[..marks.len()].copy_from_slice(marks);
     run
@@ -24,7 +24,7 @@ pub fn start(sheet: &[u8], marks: &[u8]) -> Result<Run, Refusal> {
 
 /// The condition of refusal 22.
 pub fn is_finished(run: &Run) -> bool {
-    run.place.position == run.job.tasks && !run.place.awaiting
+    run.place.position == run.job.tasks && !run.place.awaits()
 }
 
 /// The condition of refusal 21.
@@ -40,7 +40,7 @@ pub fn is_broken(run: &Run) -> bool {
     if place.position > job.tasks {
         return true;
     }
-    if place.awaiting && (place.position == 0 || marks[place.position - 1] == 0) {
+    if place.awaits() && (place.position == 0 || marks[place.position - 1] == 0) {
         return true;
     }
     u128::from(place.sums.kept) != job.weight(0, place.position) || place.sums.total() > MAX_TOTAL
@@ -55,7 +55,7 @@ fn check_turn(run: &Run, event: Event) -> Result<(), Refusal> {
         return Err(22);
     }
     let of_a_task = matches!(event, Event::Done | Event::Stopped(_));
-    if of_a_task == run.place.awaiting {
+    if of_a_task == run.place.awaits() {
         return Err(23);
     }
     match event {
@@ -82,7 +82,7 @@ struct Replay {
     base: Run,
     attempts: Vec<Attempt>,
     saved: Vec<Saved>,
-    awaiting: bool,
+    awaiting: u8,
     lost_ticks: u64,
     verify: u64,
     saves: u64,
@@ -107,7 +107,7 @@ impl Replay {
             recovery: 0,
             ticks: 0,
         };
-        for position in 1..=place.position - usize::from(place.awaiting) {
+        for position in 1..=place.position - usize::from(place.awaits()) {
             replay.save(position);
         }
         replay
@@ -142,13 +142,13 @@ impl Replay {
         for attempt in self.attempts.iter_mut().filter(|a| a.task > position) {
             attempt.lost = true;
         }
-        self.awaiting = false;
+        self.awaiting = 0;
     }
 
     fn done(&mut self) {
         let task = self.position() + 1;
         self.attempts.push(Attempt { task, lost: false });
-        self.awaiting = self.mark(task) != 0;
+        self.awaiting = u8::from(self.mark(task) != 0);
         self.ticks += u128::from(self.weight(task));
     }
 
@@ -166,7 +166,7 @@ impl Replay {
         self.verify += u64::from(platform.v);
         self.saves += saves;
         self.save(position);
-        self.awaiting = false;
+        self.awaiting = 0;
         self.ticks += u128::from(platform.v) + u128::from(saves);
     }
 

@@ -14,7 +14,7 @@ fn show(run: Run) {
     let place = run.place;
     let sums = place.sums;
     console::numbered(b"position", place.position as u64);
-    if place.awaiting {
+    if place.awaiting != 0 {
         console::line(b"awaited yes");
     } else {
         console::line(b"awaited no");

@@ -6,7 +6,7 @@ use borrow.Author.Tests.{eqb-false}
 use lib.Dec.{eqb}
 use Rattle.refusals.specs.Numbers
 use Rattle.refusals.specs.Refusals.{first}
-use Rattle.state.specs.State.{broken, finished, overTotal}
+use Rattle.state.specs.State.{awaits, broken, finished, overTotal}
 use Rattle.following.specs.Run.{outOfTurn, overWeight, nextPlace, standing, stepRefusal, accepted, refused, stepOf}
 use Rattle.following.specs.Working.Ready.{ReadyForEvent, TaskRuns}
 use Rattle.state.specs.declared.Place.{Place}
@@ -24,11 +24,11 @@ module _ (run : Run) (event : Event) where
   step-finished b f = rw (b, f)
 
   module _ (ready : ReadyForEvent run) where
-    pub step-out-of-turn : outOfTurn (run .place .awaiting) event ≡ true → refused Numbers.outOfTurn run ≡ stepOf run event
+    pub step-out-of-turn : outOfTurn (awaits (run .place)) event ≡ true → refused Numbers.outOfTurn run ≡ stepOf run event
     unfolding stepOf stepRefusal first
     step-out-of-turn t = rw (ready .unbroken, ready .unfinished, t)
 
-    module _ (t : outOfTurn (run .place .awaiting) event ≡ false) where
+    module _ (t : outOfTurn (awaits (run .place)) event ≡ false) where
       pub step-over-weight : overWeight run event ≡ true → refused Numbers.overWeight run ≡ stepOf run event
       unfolding stepOf stepRefusal first
       step-over-weight w = rw (ready .unbroken, ready .unfinished, t, w)
@@ -45,7 +45,7 @@ module _ (run : Run) (event : Event) where
           go false = refl
 
 -- while nothing is awaited in a run that is not finished, a task is running
-pub task-runs : (run : Run) → ReadyForEvent run → run .place .awaiting ≡ false → TaskRuns run
+pub task-runs : (run : Run) → ReadyForEvent run → awaits (run .place) ≡ false → TaskRuns run
 unfolding finished
 task-runs run ready a =
     let sound = run-sound run (ready .unbroken) in

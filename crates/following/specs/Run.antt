@@ -9,7 +9,7 @@ use Rattle.chain.specs.Time.{Marks, memory, disk, last}
 use Rattle.job.specs.Job.{weightAt, between}
 use Rattle.job.specs.declared.Job.{Job}
 use Rattle.costs.specs.Costs.{vAt, rdAt, rmAt, verifyPaid, savesPaid}
-use Rattle.state.specs.State.{marksIn, overTotal, broken, finished}
+use Rattle.state.specs.State.{marksIn, awaits, overTotal, broken, finished}
 use Rattle.state.specs.declared.Sums.{Sums}
 use Rattle.state.specs.declared.Place.{Place}
 use Rattle.state.specs.declared.Run.{Run}
@@ -42,7 +42,7 @@ unfoldable pub afterDone : Job → Marks → Place → Place
 afterDone job f place =
     record {
       position = suc (place .position);
-      awaiting = not (eqb (f (suc (place .position))) 0);
+      awaiting = cond (eqb (f (suc (place .position))) 0) 0 1;
       sums = joinKept (weightAt (job .weights) (place .position)) (place .sums);
     }
 
@@ -52,7 +52,7 @@ afterPassed job f place =
     let v : ℕ = place .position in
     record {
       position = v;
-      awaiting = false;
+      awaiting = 0;
       sums = joinSaves (savesPaid job (f v) v) (joinVerify (verifyPaid job (f v) v) (place .sums));
     }
 
@@ -68,7 +68,7 @@ unfoldable pub backToMemory : Job → Place → ℕ → Place
 backToMemory job place m =
     record {
       position = m;
-      awaiting = false;
+      awaiting = 0;
       sums = move (between (job .weights) m (place .position)) (joinRecovery (rmAt job m) (joinVerify (vAt job (place .position)) (place .sums)));
     }
 
@@ -77,7 +77,7 @@ unfoldable pub backToDisk : Job → Place → ℕ → ℕ → Place
 backToDisk job place d lost =
     record {
       position = d;
-      awaiting = false;
+      awaiting = 0;
       sums = move (between (job .weights) d (place .position)) (joinRecovery (rdAt job d) (joinRedone lost (place .sums)));
     }
 
@@ -111,7 +111,7 @@ abbrev pub stepConditions : Run → Event → List Condition
 stepConditions run event =
     refusal Numbers.broken (broken run)
     ∷ refusal Numbers.finished (finished run)
-    ∷ refusal Numbers.outOfTurn (outOfTurn (run .place .awaiting) event)
+    ∷ refusal Numbers.outOfTurn (outOfTurn (awaits (run .place)) event)
     ∷ refusal Numbers.overWeight (overWeight run event)
     ∷ refusal Numbers.overTotal (overTotal (nextPlace run event .sums))
     ∷ []

@@ -1,6 +1,7 @@
 // The four events of a run: where it stands after each, and refusals 23 to 25.
 ghost use mathlib.Core.Path.{_≡_};
 ghost use mathlib.Core.Bool.{cond};
+ghost use lib.Dec.{eqb};
 ghost use Rattle.refusals.specs.Numbers;
 ghost use Rattle.following.specs.Run.{lastMemory, lastDisk, afterDone, afterPassed, backToMemory, backToDisk, standing, accepted, refused, stepOf};
 ghost use Rattle.state.specs.State.{marksIn, overTotal};
@@ -43,9 +44,19 @@ fn back_to(job: Job, copy: usize, sums: Sums) -> Place
     moved.redone += ticks;
     Place {
         position: copy,
-        awaiting: false,
+        awaiting: 0,
         sums: moved,
     }
+}
+
+// Whether the verification of a task with this mark is awaited.
+fn awaited(mark: u8) -> u8
+    ensures { λ r. ⌜ r ≡ cond (eqb mark 0) 0 1 ⌝ }
+{
+    if mark == 0 {
+        return 0;
+    }
+    1
 }
 
 // Done: the running task's weight joins kept. If its mark is not 0, its verification is awaited.
@@ -58,7 +69,7 @@ fn after_done(run: Run) -> Place
     sums.kept += weight_at(run.job, p);
     Place {
         position: p + 1,
-        awaiting: mark_at(run, p + 1) != 0,
+        awaiting: awaited(mark_at(run, p + 1)),
         sums,
     }
 }
@@ -75,7 +86,7 @@ fn after_passed(run: Run) -> Place
     sums.saves += saves_paid(run.job, mark, p);
     Place {
         position: p,
-        awaiting: false,
+        awaiting: 0,
         sums,
     }
 }
@@ -122,7 +133,7 @@ pub fn done(run: Run) -> Stepped
     requires { ⌜ ReadyForEvent run ⌝ }
     ensures { λ r. ⌜ r ≡ stepOf run Event.Done ⌝ }
 {
-    if run.place.awaiting {
+    if run.place.awaiting != 0 {
         return refused(OUT_OF_TURN, run);
     }
     arrived(run, after_done(run))
@@ -133,7 +144,7 @@ pub fn passed(run: Run) -> Stepped
     requires { ⌜ ReadyForEvent run ⌝ }
     ensures { λ r. ⌜ r ≡ stepOf run Event.Passed ⌝ }
 {
-    if !run.place.awaiting {
+    if run.place.awaiting == 0 {
         return refused(OUT_OF_TURN, run);
     }
     arrived(run, after_passed(run))
@@ -144,7 +155,7 @@ pub fn failed(run: Run) -> Stepped
     requires { ⌜ ReadyForEvent run ⌝ }
     ensures { λ r. ⌜ r ≡ stepOf run Event.Failed ⌝ }
 {
-    if !run.place.awaiting {
+    if run.place.awaiting == 0 {
         return refused(OUT_OF_TURN, run);
     }
     arrived(run, after_failed(run))
@@ -155,7 +166,7 @@ pub fn stopped(run: Run, lost: u32) -> Stepped
     requires { ⌜ ReadyForEvent run ⌝ }
     ensures { λ r. ⌜ r ≡ stepOf run (Event.Stopped lost) ⌝ }
 {
-    if run.place.awaiting {
+    if run.place.awaiting != 0 {
         return refused(OUT_OF_TURN, run);
     }
     let p = run.place.position;

@@ -14,7 +14,7 @@ use Rattle.sheet.specs.Layout.{tasks, weightsKind, indexOf, section}
 use Rattle.sheet.specs.Reading.{sectionField, weightsOf, sheetConditions, sheetRefusal, jobOf}
 use Rattle.sheet.proofs.Readings.{sheet-sound}
 use Rattle.marks.specs.Marks.{marksConditions}
-use Rattle.state.specs.State.{broken, finished, overTotal, cleared, fresh}
+use Rattle.state.specs.State.{awaits, broken, finished, overTotal, cleared, fresh}
 use Rattle.following.specs.Run.{outOfTurn, overWeight, nextPlace, standing, stepConditions, stepRefusal, stepOf}
 use Rattle.following.specs.Start.{startRefusal, startOf}
 use Rattle.state.specs.declared.Run.{Run}
@@ -29,7 +29,7 @@ step-numbered run event = refl
 pub record Accepted (run : Run) (event : Event) : Type 0 where
   pub unbroken : broken run ≡ false
   pub unfinished : finished run ≡ false
-  pub in-turn : outOfTurn (run .place .awaiting) event ≡ false
+  pub in-turn : outOfTurn (awaits (run .place)) event ≡ false
   pub within-weight : overWeight run event ≡ false
   pub within-total : overTotal (nextPlace run event .sums) ≡ false
   pub next : stepOf run event .run ≡ standing run (nextPlace run event)

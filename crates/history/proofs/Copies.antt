@@ -10,7 +10,7 @@ use lib.Dec.{eqb}
 use Rattle.chain.specs.Time.{Marks, memory, disk, last}
 use Rattle.chain.proofs.Equations.{last-here, last-past, last-lt, last-first}
 use Rattle.chain.proofs.Last.{last-marked, last-between, last-over}
-use Rattle.state.specs.State.{marksIn}
+use Rattle.state.specs.State.{marksIn, awaits}
 use Rattle.state.specs.declared.Run.{Run}
 use Rattle.following.specs.Run.{afterDone, afterPassed, backToMemory, backToDisk, placeAfter, nextPlace, outOfTurn, standing}
 use Rattle.following.specs.declared.Event.{Event}
@@ -33,11 +33,19 @@ disk-kept f (suc v) =
     last-over disk f (last memory f (suc v)) (suc v) (last-lt memory f (suc v) (omega arith))
     (λ w a b. omega (arith, last-between memory f (suc v) w a b))
 
+-- the byte that Done leaves says whether the task has a mark
+mark-awaited : (k : ℕ) → not (eqb (cond (eqb k 0) 0 1) 0) ≡ not (eqb k 0)
+mark-awaited k = go (eqb k 0)
+  where
+    go : (b : Bool) → not (eqb (cond b 0 1) 0) ≡ not b
+    go true = refl
+    go false = refl
+
 -- a task done without a mark saves nothing; with one, its verification is awaited
-done-copy : (k : ℕ) (f : Marks) (p : ℕ) → 1 < k → last k f (cond (not (eqb (f (suc p)) 0)) (suc p) (suc (suc p))) ≡ last k f (suc p)
+done-copy : (k : ℕ) (f : Marks) (p : ℕ) → 1 < k → last k f (cond (not (eqb (cond (eqb (f (suc p)) 0) 0 1) 0)) (suc p) (suc (suc p))) ≡ last k f (suc p)
 done-copy k f p l = go (ℕ-discrete (f (suc p)) 0)
   where
-    go : Dec (f (suc p) ≡ 0) → last k f (cond (not (eqb (f (suc p)) 0)) (suc p) (suc (suc p))) ≡ last k f (suc p)
+    go : Dec (f (suc p) ≡ 0) → last k f (cond (not (eqb (cond (eqb (f (suc p)) 0) 0 1) 0)) (suc p) (suc (suc p))) ≡ last k f (suc p)
     go (yes z) = rw (eq-eqb _ _ z) (last-past k f (suc p) (omega arith))
     go (no z) = rw (ne-eqb _ _ z)
 
@@ -52,25 +60,25 @@ module _ (run : Run) where
   f = marksIn run
 
   -- where an event in its turn looks for the copies
-  pub passed-running : run .place .awaiting ≡ false → passedBefore run ≡ suc (run .place .position)
+  pub passed-running : awaits (run .place) ≡ false → passedBefore run ≡ suc (run .place .position)
   passed-running t = rw t
 
-  pub passed-awaited : run .place .awaiting ≡ true → passedBefore run ≡ run .place .position
+  pub passed-awaited : awaits (run .place) ≡ true → passedBefore run ≡ run .place .position
   passed-awaited t = rw t
 
-  pub history-goes-on : (e : Event) → outOfTurn (run .place .awaiting) e ≡ false
+  pub history-goes-on : (e : Event) → outOfTurn (awaits (run .place)) e ≡ false
       → historyAt (standing run (nextPlace run e)) ≡ happened (marksIn run) (historyAt run) e
   unfolding historyAt happened nextPlace placeAfter outOfTurn afterDone afterPassed backToMemory backToDisk last
   history-goes-on Done t =
       let at : (k : ℕ) → last k (marksIn run) (suc (run .place .position)) ≡ last k (marksIn run) (passedBefore run) = λ k. ap (last k (marksIn run)) (sym (passed-running t)) in
-      same-history refl refl
+      same-history refl (mark-awaited (marksIn run (suc (run .place .position))))
       (done-copy memory (marksIn run) (run .place .position) (omega arith) ∙ at memory)
       (done-copy disk (marksIn run) (run .place .position) (omega arith) ∙ at disk)
   history-goes-on Passed t =
-      let e = passed-awaited (not-false (run .place .awaiting) t) in
+      let e = passed-awaited (not-false (awaits (run .place)) t) in
       same-history refl refl (rw e) (rw e)
   history-goes-on Failed t =
-      let e = passed-awaited (not-false (run .place .awaiting) t) in
+      let e = passed-awaited (not-false (awaits (run .place)) t) in
       let p : ℕ = run .place .position in
       same-history
       (rw e) refl

@@ -2,7 +2,7 @@
 -- so do accepted events one by one, and from the beginning they give the history's own place and sums. Assumes nothing.
 use Prim.Native.Nat.{ℕ, zero, suc, _+_, _-_, _≤_, _<_}
 use mathlib.Core.Path.{_≡_, refl, _∙_, ap}
-use mathlib.Core.Bool.{Bool, true, false, _||_, cond}
+use mathlib.Core.Bool.{Bool, true, false, not, _||_, cond}
 use mathlib.Core.List.{List, [], _∷_}
 use native.Mathlib.Decide.{decLe, ℕ-discrete}
 use native.Mathlib.Numerals.{add-one}
@@ -17,7 +17,7 @@ use Rattle.job.specs.declared.Job.{Job}
 use Rattle.job.proofs.Weights.{total-more, total-mono}
 use Rattle.marks.specs.Pays.{table, paysOf}
 use Rattle.costs.specs.Costs.{vAt, cmAt, cdAt, verifyPaid, savesPaid}
-use Rattle.state.specs.State.{totalOf, marksIn, badAwaiting, broken, beginning}
+use Rattle.state.specs.State.{totalOf, marksIn, awaits, badAwaiting, broken, beginning}
 use Rattle.state.specs.declared.Sums.{Sums}
 use Rattle.state.specs.declared.Place.{Place}
 use Rattle.state.specs.declared.Run.{Run}
@@ -28,7 +28,7 @@ use Rattle.following.specs.declared.Event.{Event}
 use Rattle.following.specs.declared.Event.the-variants.{Done, Passed, Failed, Stopped}
 use Rattle.history.specs.Events.{steps}
 use Rattle.history.specs.History.{History, atStart, happened, historyFrom, history, historyAt}
-use Rattle.history.specs.Counts.{countFrom, count, joinsKept, moves, joinsRedone, joinsVerify, joinsSaves, joinsRecovery, sumsOf, placeOf, ticksOf, ticks, Added, StepCounts}
+use Rattle.history.specs.Counts.{countFrom, count, joinsKept, moves, joinsRedone, joinsVerify, joinsSaves, joinsRecovery, sumsOf, placeOf, ticksOf, ticks, Added, Plain, StepCounts}
 use Rattle.history.proofs.Accepted.{step-accepted}
 use Rattle.history.proofs.Copies.{history-goes-on}
 
@@ -84,20 +84,20 @@ module _ (run : Run) (unbroken : broken run ≡ false) where
   moved-within c l = omega (arith, kept-here, total-mono (run .job .weights) c (run .place .position) l)
 
   -- an awaited verification is that of a mark
-  awaited-mark : run .place .awaiting ≡ true → 0 < marksIn run (run .place .position)
+  awaited-mark : awaits (run .place) ≡ true → 0 < marksIn run (run .place .position)
   unfolding badAwaiting
   awaited-mark t =
       let clear : (eqb (run .place .position) 0 || eqb (marksIn run (run .place .position)) 0) ≡ false = rw t at (run-place run unbroken .awaiting) in
       omega (arith, eqb-false (marksIn run (run .place .position)) 0 (or-fails (eqb (run .place .position) 0) _ clear .1))
 
-  event-counted : (e : Event) → outOfTurn (run .place .awaiting) e ≡ false
+  event-counted : (e : Event) → outOfTurn (awaits (run .place)) e ≡ false
       → Each (run .job) (marksIn run) (historyAt run) e (run .place .sums) (nextPlace run e .sums)
   unfolding
       historyAt nextPlace placeAfter outOfTurn afterDone afterPassed backToMemory backToDisk joinsKept moves joinsRedone joinsVerify joinsSaves joinsRecovery
   event-counted Done t = record { kept = omega arith; redone = omega arith; verify = omega arith; saves = omega arith; recovery = omega arith }
   event-counted Passed t =
       let p : ℕ = run .place .position in
-      let pays = mark-pays (run .job) (marksIn run p) p (awaited-mark (not-false (run .place .awaiting) t)) (run-marks run unbroken p (run-place run unbroken .position)) in
+      let pays = mark-pays (run .job) (marksIn run p) p (awaited-mark (not-false (awaits (run .place)) t)) (run-marks run unbroken p (run-place run unbroken .position)) in
       record {
         kept = omega arith;
         redone = omega arith;
@@ -108,12 +108,24 @@ module _ (run : Run) (unbroken : broken run ≡ false) where
   event-counted Failed t =
       let p : ℕ = run .place .position in
       let within = moved-within _ (last-le memory (marksIn run) p) in
-      rw (not-false (run .place .awaiting) t)
+      rw (not-false (awaits (run .place)) t)
       (record { kept = omega (arith, within); redone = omega arith; verify = omega arith; saves = omega arith; recovery = omega arith })
   event-counted (Stopped lost) t =
       let p : ℕ = run .place .position in
       let within = moved-within _ (last-up-to disk (marksIn run) p) in
       rw t (record { kept = omega (arith, within); redone = omega arith; verify = omega arith; saves = omega arith; recovery = omega arith })
+
+-- an event leaves 0 or 1, whatever stood there
+byte-plain : (b : Bool) → _≡_ {A = ℕ} (cond b 0 1) (cond (not (eqb (cond b 0 1) 0)) 1 0)
+byte-plain true = refl
+byte-plain false = refl
+
+next-plain : (run : Run) (e : Event) → Plain (nextPlace run e)
+unfolding nextPlace placeAfter afterDone afterPassed backToMemory backToDisk
+next-plain run Done = byte-plain (eqb (marksIn run (suc (run .place .position))) 0)
+next-plain run Passed = refl
+next-plain run Failed = refl
+next-plain run (Stopped lost) = refl
 
 -- any state that 21 accepts
 pub step-counts : (run : Run) (e : Event) → stepOf run e .number ≡ 0 → StepCounts run e (stepOf run e .run)
@@ -123,6 +135,7 @@ step-counts run e z =
     (record {
       same-sheet = refl;
       goes-on = history-goes-on run e (a .in-turn);
+      plain = next-plain run e;
       added = each-added (event-counted run (a .unbroken) e (a .in-turn));
     })
 
@@ -130,6 +143,7 @@ step-counts run e z =
 record Followed (run : Run) (events : List Event) (after : Run) : Type 0 where
   same-sheet : after ≡ standing run (after .place)
   goes-on : historyAt after ≡ historyFrom (marksIn run) (historyAt run) events
+  plain : Plain (run .place) → Plain (after .place)
   kept : after .place .sums .kept + countFrom (moves (run .job)) (marksIn run) (historyAt run) events
       ≡ run .place .sums .kept + countFrom (joinsKept (run .job)) (marksIn run) (historyAt run) events
   redone : after .place .sums .redone
@@ -142,7 +156,7 @@ record Followed (run : Run) (events : List Event) (after : Run) : Type 0 where
 nothing-followed : (run : Run) → Followed run [] run
 unfolding historyFrom countFrom
 nothing-followed run =
-    record { same-sheet = refl; goes-on = refl; kept = refl; redone = omega arith; verify = omega arith; saves = omega arith; recovery = omega arith }
+    record { same-sheet = refl; goes-on = refl; plain = λ p. p; kept = refl; redone = omega arith; verify = omega arith; saves = omega arith; recovery = omega arith }
 
 -- one event, then the others
 event-followed : (run : Run) (place : Place) (e : Event) (events : List Event) (after : Run) → StepCounts run e (standing run place)
@@ -153,6 +167,7 @@ event-followed run place e events after one others =
     record {
       same-sheet = others .same-sheet;
       goes-on = rw (one .goes-on) at (others .goes-on);
+      plain = λ p. others .plain (one .plain);
       kept = omega (arith, added .kept, rw (one .goes-on) at (others .kept));
       redone = omega (arith, added .redone, rw (one .goes-on) at (others .redone));
       verify = omega (arith, added .verify, rw (one .goes-on) at (others .verify));
@@ -173,7 +188,7 @@ follows-on run (e ∷ es) z = go (ℕ-discrete (stepOf run e .number) 0) (λ r. 
         (event-followed run (nextPlace run e) e es _ (rw next at (step-counts run e q)) (ih (standing run (nextPlace run e)) (rw (eq-eqb _ _ q, next) at z)))
     go (no q) ih = absurd (q (rw (ne-eqb _ _ q) at z))
 
-same-place : {p q : ℕ} {a b : Bool} {k l r s v w x y c d : ℕ} → p ≡ q → a ≡ b → k ≡ l → r ≡ s → v ≡ w → x ≡ y → c ≡ d
+same-place : {p q a b k l r s v w x y c d : ℕ} → p ≡ q → a ≡ b → k ≡ l → r ≡ s → v ≡ w → x ≡ y → c ≡ d
     → _≡_ {A = Place}
     (record { position = p; awaiting = a; sums = record { kept = k; redone = r; verify = v; saves = x; recovery = c } })
     (record { position = q; awaiting = b; sums = record { kept = l; redone = s; verify = w; saves = y; recovery = d } })
@@ -202,7 +217,7 @@ module _ (run : Run) (new : run .place ≡ beginning) where
       ∙ ap (standing run)
       (same-place
       (ap (λ (h : History). h .position) stands)
-      (ap (λ (h : History). h .awaiting) stands)
+      (followed .plain (rw new) ∙ ap (λ (h : History). cond (h .awaiting) 1 0) stands)
       (omega (arith, new-kept, rw history-begins at (followed .kept)))
       (omega (arith, new-redone, rw history-begins at (followed .redone)))
       (omega (arith, new-verify, rw history-begins at (followed .verify)))

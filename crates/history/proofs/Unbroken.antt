@@ -2,7 +2,7 @@
 -- and 25 keeps the total; a refused event leaves the state. Assumes nothing.
 use Prim.Native.Nat.{ℕ, suc, _≤_}
 use mathlib.Core.Path.{_≡_, refl, sym, _∙_, ap}
-use mathlib.Core.Bool.{Bool, true, false, not, _||_, _&&_}
+use mathlib.Core.Bool.{Bool, true, false, not, _||_, _&&_, cond}
 use mathlib.Core.List.{List}
 use native.Mathlib.Decide.{ℕ-discrete}
 use native.Mathlib.Numerals.{add-one}
@@ -59,7 +59,7 @@ module _ (run : Run) (before : PlacePassed (run .job) (marksIn run) (run .place)
       mark : ℕ
       mark = marksIn run (suc (run .place .position))
 
-      go : Dec (mark ≡ 0) → (not (eqb mark 0) && (eqb (suc (run .place .position)) 0 || eqb mark 0)) ≡ false
+      go : Dec (mark ≡ 0) → (not (eqb (cond (eqb mark 0) 0 1) 0) && (eqb (suc (run .place .position)) 0 || eqb mark 0)) ≡ false
       go (yes z) = rw (eq-eqb _ _ z)
       go (no z) = rw (ne-eqb _ _ z, ne-eqb (suc (run .place .position)) 0 (omega arith))
   next-awaiting Passed = refl

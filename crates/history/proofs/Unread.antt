@@ -21,7 +21,7 @@ use Rattle.job.specs.Checks.{badWeight, badValue, badTask}
 use Rattle.marks.specs.Marks.{marksOf, badStretch, badStretches}
 use Rattle.costs.specs.Costs.{vAt, cmAt, cdAt, rdAt, rmAt, verifyPaid, savesPaid}
 use Rattle.following.specs.Run.{lastMemory, lastDisk, afterDone, afterPassed, backToMemory, backToDisk, placeAfter, nextPlace, outOfTurn, overWeight, stepRefusal, standing, accepted, refused, stepOf}
-use Rattle.state.specs.State.{marksIn, brokenValues, badAwaiting, overTotal, brokenPlace, broken, finished}
+use Rattle.state.specs.State.{marksIn, awaits, brokenValues, badAwaiting, overTotal, brokenPlace, broken, finished}
 use Rattle.following.specs.Working.Ready.{ReadyForEvent}
 use Rattle.state.specs.declared.Run.{Run}
 use Rattle.following.specs.declared.Event.{Event}
@@ -117,14 +117,14 @@ module _ (run : Run) (w m : List ℕ) (agree : Agree run w m) where
     within : run .place .position ≤ run .job .tasks
     within = run-place run (ready .unbroken) .position
 
-    weight-over : (e : Event) → outOfTurn (run .place .awaiting) e ≡ false → overWeight other e ≡ overWeight run e
+    weight-over : (e : Event) → outOfTurn (awaits (run .place)) e ≡ false → overWeight other e ≡ overWeight run e
     unfolding outOfTurn overWeight
     weight-over Done t = refl
     weight-over Passed t = refl
     weight-over Failed t = refl
     weight-over (Stopped lost) t = rw (weight-same (run .place .position) (task-runs run ready t .running))
 
-    next-same : (e : Event) → outOfTurn (run .place .awaiting) e ≡ false → nextPlace other e ≡ nextPlace run e
+    next-same : (e : Event) → outOfTurn (awaits (run .place)) e ≡ false → nextPlace other e ≡ nextPlace run e
     unfolding outOfTurn nextPlace placeAfter afterDone afterPassed backToMemory backToDisk verifyPaid savesPaid vAt cmAt cdAt rdAt rmAt
     next-same Done t =
         let l = task-runs run ready t .running in

@@ -9,7 +9,7 @@ use Rattle.chain.specs.Time.{Marks, memory, disk}
 use Rattle.job.specs.Job.{weightAt, between}
 use Rattle.job.specs.declared.Job.{Job}
 use Rattle.costs.specs.Costs.{vAt, cmAt, cdAt, rdAt, rmAt}
-use Rattle.state.specs.State.{totalOf, marksIn}
+use Rattle.state.specs.State.{totalOf, marksIn, awaits}
 use Rattle.state.specs.declared.Sums.{Sums}
 use Rattle.state.specs.declared.Place.{Place}
 use Rattle.state.specs.declared.Run.{Run}
@@ -87,7 +87,7 @@ sumsOf job f events =
 -- where the run stands after its events, and its five sums
 unfoldable pub placeOf : Job → Marks → List Event → Place
 placeOf job f events =
-    record { position = history f events .position; awaiting = history f events .awaiting; sums = sumsOf job f events }
+    record { position = history f events .position; awaiting = cond (history f events .awaiting) 1 0; sums = sumsOf job f events }
 
 -- the ticks that an event takes: the task's weight; V and the mark's copies; V and R_M'; the lost ticks and R_D'
 unfoldable pub ticksOf : Job → Marks → Count
@@ -110,9 +110,14 @@ pub record Added (job : Job) (f : Marks) (h : History) (e : Event) (before after
   pub recovery : after .recovery ≡ before .recovery + joinsRecovery job h e
   pub together : totalOf after ≡ totalOf before + ticksOf job f h e
 
+-- the byte that says whether a verification is awaited is 0 or 1
+abbrev pub Plain : Place → Type 0
+Plain place = place .awaiting ≡ cond (awaits place) 1 0
+
 -- what an accepted event does to any state: its sheet and marks stay, it goes where the history goes from the copies that the marks passed have saved, and
 -- adds to the sums what the history counts
 pub record StepCounts (run : Run) (e : Event) (after : Run) : Type 0 where
   pub same-sheet : after ≡ standing run (after .place)
   pub goes-on : historyAt after ≡ happened (marksIn run) (historyAt run) e
+  pub plain : Plain (after .place)
   pub added : Added (run .job) (marksIn run) (historyAt run) e (run .place .sums) (after .place .sums)

@@ -5,7 +5,7 @@ use mathlib.Core.Bool.{Bool, false, not, cond}
 use mathlib.Core.List.{List, [], _∷_}
 use lib.Dec.{leb, eqb}
 use Rattle.chain.specs.Time.{Marks, memory, disk, last}
-use Rattle.state.specs.State.{marksIn}
+use Rattle.state.specs.State.{marksIn, awaits}
 use Rattle.state.specs.declared.Run.{Run}
 use Rattle.following.specs.declared.Event.{Event}
 use Rattle.following.specs.declared.Event.the-variants.{Done, Passed, Failed, Stopped}
@@ -47,14 +47,14 @@ history f events = historyFrom f atStart events
 
 -- the marks that a state has passed are those before this position: its own while its verification is awaited, or the next
 abbrev pub passedBefore : Run → ℕ
-passedBefore run = cond (run .place .awaiting) (run .place .position) (suc (run .place .position))
+passedBefore run = cond (awaits (run .place)) (run .place .position) (suc (run .place .position))
 
 -- a state as a history that goes on: the copies are the last ones that the marks passed have saved
 unfoldable pub historyAt : Run → History
 historyAt run =
     record {
       position = run .place .position;
-      awaiting = run .place .awaiting;
+      awaiting = awaits (run .place);
       inMemory = last memory (marksIn run) (passedBefore run);
       onDisk = last disk (marksIn run) (passedBefore run);
     }

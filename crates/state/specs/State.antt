@@ -1,7 +1,7 @@
 -- The state of a run: the fresh one, the one with every field 0, and refusals 21 and 22 of document 01.
 use Prim.Native.Nat.{ℕ, _+_, _^_, _≤_}
 use mathlib.Core.Path.{_≡_}
-use mathlib.Core.Bool.{Bool, false, not, _||_, _&&_, cond}
+use mathlib.Core.Bool.{Bool, not, _||_, _&&_, cond}
 use mathlib.Core.List.{List, _∷_, _++_}
 use lib.Dec.{ltb, eqb}
 use lib.ListN.{getD, take, replicate}
@@ -19,7 +19,7 @@ use Rattle.state.specs.declared.Run.{Run}
 
 -- before task 1, with all five sums at 0
 abbrev pub beginning : Place
-beginning = record { position = 0; awaiting = false; sums = record { kept = 0; redone = 0; verify = 0; saves = 0; recovery = 0 } }
+beginning = record { position = 0; awaiting = 0; sums = record { kept = 0; redone = 0; verify = 0; saves = 0; recovery = 0 } }
 
 -- the first n entries of a list, and 0 past them
 unfoldable pub cleared : ℕ → List ℕ → List ℕ
@@ -66,9 +66,13 @@ valueConditions job marks = refusal Numbers.badCount (badCount (job .tasks)) ∷
 unfoldable pub brokenValues : Job → List ℕ → Bool
 brokenValues job marks = not (eqb (first (valueConditions job marks)) 0)
 
+-- a verification is awaited: the byte that says so is not 0
+abbrev pub awaits : Place → Bool
+awaits place = not (eqb (place .awaiting) 0)
+
 -- a verification is awaited where the mark is 0 or at position 0
 unfoldable pub badAwaiting : Marks → Place → Bool
-badAwaiting f place = place .awaiting && (eqb (place .position) 0 || eqb (f (place .position)) 0)
+badAwaiting f place = awaits place && (eqb (place .position) 0 || eqb (f (place .position)) 0)
 
 -- the sums together pass 2^40
 unfoldable pub overTotal : Sums → Bool
@@ -88,4 +92,4 @@ broken run = brokenValues (run .job) (marksRead run) || brokenPlace (run .job) (
 
 -- 22: finished, that is, position n and nothing awaited
 unfoldable pub finished : Run → Bool
-finished run = eqb (run .place .position) (run .job .tasks) && not (run .place .awaiting)
+finished run = eqb (run .place .position) (run .job .tasks) && not (awaits (run .place))

@@ -19,11 +19,11 @@ pub struct Sums {
     pub recovery: u64,
 }
 
-// Where a run stands, whether a verification is awaited there, and its sums.
+// Where a run stands, whether a verification is awaited there (not 0) or a task runs (0), and its sums.
 #[repr(C)]
 pub struct Place {
     pub position: usize,
-    pub awaiting: bool,
+    pub awaiting: u8,
     pub sums: Sums,
 }
 
@@ -84,7 +84,7 @@ impl Place {
     {
         Place {
             position: 0,
-            awaiting: false,
+            awaiting: 0,
             sums: Sums {
                 kept: 0,
                 redone: 0,

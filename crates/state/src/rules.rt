@@ -40,7 +40,7 @@ fn bad_awaiting(run: Run) -> bool
     requires { ⌜ run .place .position ≤ taskLimit ⌝ }
     ensures { λ r. ⌜ r ≡ badAwaiting (marksIn run) (run .place) ⌝ }
 {
-    if !run.place.awaiting {
+    if run.place.awaiting == 0 {
         return false;
     }
     mark_at(run, run.place.position) == 0
@@ -98,5 +98,5 @@ pub fn finished(run: Run) -> bool
     if run.place.position != run.job.tasks {
         return false;
     }
-    !run.place.awaiting
+    run.place.awaiting == 0
 }

@@ -29,4 +29,4 @@ pub record ReadyToMove (job : Job) (copy : ℕ) (sums : Sums) : Type 0 where
 
 -- the place at the copy, with the weights after it moved
 abbrev pub backAt : Job → ℕ → Sums → Place
-backAt job copy sums = record { position = copy; awaiting = false; sums = move (sums .kept - total (job .weights) copy) sums }
+backAt job copy sums = record { position = copy; awaiting = 0; sums = move (sums .kept - total (job .weights) copy) sums }

@@ -26,13 +26,16 @@ add-mark-at c = search needs
 mark-at-requires : tie.Need-mark-at-requires
 mark-at-requires c κs = search needs
 
+awaited-requires : tie.Need-awaited-requires
+awaited-requires c κs = search needs
+
 returns : tie.Need-returns
 unfolding afterDone
 returns c =
-    let mark-at = c .mark-at in
-    let weight-at = c .before .before .weight-at in
-    rw (mark-at .ensures, weight-at .ensures .0, add-one)
+    let mark-at = c .before .mark-at in
+    let weight-at = c .before .before .before .weight-at in
+    rw (c .awaited .ensures, mark-at .ensures, weight-at .ensures .0, add-one)
 
 pub after-done-spec : {M : Type 1} → statement M
 after-done-spec =
-    tie.close (tie.spec weight-at-requires add-sums add-t5 add-mark-at mark-at-requires returns)
+    tie.close (tie.spec weight-at-requires add-sums add-t5 add-mark-at mark-at-requires awaited-requires returns)

@@ -2,6 +2,7 @@
 use mathlib.Core.Path.{refl, _∙_}
 use Rattle.following.specs.Run.{nextPlace, placeAfter, outOfTurn, overWeight}
 use Rattle.following.specs.declared.Event.the-variants.{Done}
+use Rattle.state.proofs.Soundness.{awaits-some, awaits-none}
 use Rattle.following.proofs.Steps.{step-out-of-turn, step-arrives, task-runs}
 use borrow.Author.Needs.{needs}
 use Rattle.following.proofs.events.done.Statement.{statement}
@@ -14,17 +15,17 @@ returns : tie.Need-returns
 unfolding outOfTurn
 returns c =
     let refused = c .refused in
-    let args = c .before .before .args in
-    let pre = c .before .before .pre in
+    let args = c .before .before .before .args in
+    let pre = c .before .before .before .pre in
     let if1 = c .before .if1 in
-    refused .ensures ∙ step-out-of-turn (args .run) Done pre (if1 .taken)
+    refused .ensures ∙ step-out-of-turn (args .run) Done pre (awaits-some (args .run .place) (if1 .taken))
 
 after-done-requires : tie.Need-after-done-requires
 after-done-requires c κs =
-    let args = c .before .args in
-    let pre = c .before .pre in
+    let args = c .before .before .args in
+    let pre = c .before .before .pre in
     let if1 = c .if1 in
-    task-runs (args .run) pre (if1 .left)
+    task-runs (args .run) pre (awaits-none (args .run .place) (if1 .left))
 
 arrived-requires : tie.Need-arrived-requires
 arrived-requires c κs = search needs
@@ -33,11 +34,11 @@ returns-2 : tie.Need-returns-2
 unfolding nextPlace placeAfter outOfTurn overWeight
 returns-2 c =
     let arrived = c .arrived in
-    let args = c .before .before .before .args in
-    let pre = c .before .before .before .pre in
+    let args = c .before .before .before .before .args in
+    let pre = c .before .before .before .before .pre in
     let if1 = c .before .before .if1 in
     let after-done = c .before .after-done in
-    arrived .ensures ∙ step-arrives (args .run) Done pre (if1 .left) refl (after-done .result) (after-done .ensures)
+    arrived .ensures ∙ step-arrives (args .run) Done pre (awaits-none (args .run .place) (if1 .left)) refl (after-done .result) (after-done .ensures)
 
 pub done-spec : {M : Type 1} → statement M
 done-spec =

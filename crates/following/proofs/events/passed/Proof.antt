@@ -1,8 +1,9 @@
 -- `following::events::passed` meets its contract. Refusal 23 by the branch; otherwise 24 does not concern Passed, and 25 decides at the next place. Assumes nothing.
-use mathlib.Core.Path.{refl, _∙_}
+use mathlib.Core.Path.{refl, _∙_, ap}
+use mathlib.Core.Bool.{not}
 use Rattle.following.specs.Run.{nextPlace, placeAfter, outOfTurn, overWeight}
 use Rattle.following.specs.declared.Event.the-variants.{Passed}
-use Rattle.state.proofs.Soundness.{run-sound}
+use Rattle.state.proofs.Soundness.{awaits-some, awaits-none, run-sound}
 use Rattle.following.proofs.Steps.{step-out-of-turn, step-arrives}
 use borrow.Author.Needs.{needs}
 use Rattle.following.proofs.events.passed.Statement.{statement}
@@ -18,7 +19,7 @@ returns c =
     let args = c .before .before .before .args in
     let pre = c .before .before .before .pre in
     let if1 = c .before .if1 in
-    refused .ensures ∙ step-out-of-turn (args .run) Passed pre (if1 .taken)
+    refused .ensures ∙ step-out-of-turn (args .run) Passed pre (ap not (awaits-none (args .run .place) (if1 .taken)))
 
 after-passed-requires : tie.Need-after-passed-requires
 after-passed-requires c κs =
@@ -37,7 +38,7 @@ returns-2 c =
     let pre = c .before .before .before .before .pre in
     let if1 = c .before .before .if1 in
     let after-passed = c .before .after-passed in
-    arrived .ensures ∙ step-arrives (args .run) Passed pre (if1 .left) refl (after-passed .result) (after-passed .ensures)
+    arrived .ensures ∙ step-arrives (args .run) Passed pre (ap not (awaits-some (args .run .place) (if1 .left))) refl (after-passed .result) (after-passed .ensures)
 
 pub passed-spec : {M : Type 1} → statement M
 passed-spec =

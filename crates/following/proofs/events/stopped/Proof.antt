@@ -4,6 +4,7 @@ use native.Mathlib.Omega.{arith}
 use borrow.Author.Tests.{lt-ltb, le-ltb}
 use Rattle.following.specs.Run.{nextPlace, placeAfter, outOfTurn, overWeight}
 use Rattle.following.specs.declared.Event.the-variants.{Stopped}
+use Rattle.state.proofs.Soundness.{awaits-some, awaits-none}
 use Rattle.following.proofs.Steps.{step-out-of-turn, step-over-weight, step-arrives, task-runs}
 use borrow.Author.Needs.{needs}
 use Rattle.following.proofs.events.stopped.Statement.{statement}
@@ -16,17 +17,17 @@ returns : tie.Need-returns
 unfolding outOfTurn
 returns c =
     let refused = c .refused in
-    let args = c .before .before .args in
-    let pre = c .before .before .pre in
+    let args = c .before .before .before .args in
+    let pre = c .before .before .before .pre in
     let if1 = c .before .if1 in
-    refused .ensures ∙ step-out-of-turn (args .run) (Stopped (args .lost)) pre (if1 .taken)
+    refused .ensures ∙ step-out-of-turn (args .run) (Stopped (args .lost)) pre (awaits-some (args .run .place) (if1 .taken))
 
 weight-at-requires : tie.Need-weight-at-requires
 weight-at-requires c κs =
-    let args = c .before .args in
-    let pre = c .before .pre in
+    let args = c .before .before .args in
+    let pre = c .before .before .pre in
     let if1 = c .if1 in
-    let runs = task-runs (args .run) pre (if1 .left) in omega (arith, runs .running, runs .sound .values .few-tasks)
+    let runs = task-runs (args .run) pre (awaits-none (args .run .place) (if1 .left)) in omega (arith, runs .running, runs .sound .values .few-tasks)
 
 wide-requires : tie.Need-wide-requires
 wide-requires c κs = search needs
@@ -38,22 +39,22 @@ returns-2 : tie.Need-returns-2
 unfolding outOfTurn overWeight
 returns-2 c =
     let refused2 = c .refused2 in
-    let args = c .before .before .before .before .before .args in
-    let pre = c .before .before .before .before .before .pre in
+    let args = c .before .before .before .before .before .before .args in
+    let pre = c .before .before .before .before .before .before .pre in
     let if1 = c .before .before .before .before .if1 in
     let weight-at = c .before .before .before .weight-at in
     let wide = c .before .before .wide in
     let if2 = c .before .if2 in
     refused2 .ensures
-    ∙ step-over-weight (args .run) (Stopped (args .lost)) pre (if1 .left)
+    ∙ step-over-weight (args .run) (Stopped (args .lost)) pre (awaits-none (args .run .place) (if1 .left))
     (rw (← (weight-at .ensures .0), ← (wide .ensures .0)) (lt-ltb _ _ (if2 .taken)))
 
 after-stopped-requires : tie.Need-after-stopped-requires
 after-stopped-requires c κs =
-    let args = c .before .before .before .before .args in
-    let pre = c .before .before .before .before .pre in
+    let args = c .before .before .before .before .before .args in
+    let pre = c .before .before .before .before .before .pre in
     let if1 = c .before .before .before .if1 in
-    task-runs (args .run) pre (if1 .left)
+    task-runs (args .run) pre (awaits-none (args .run .place) (if1 .left))
 
 arrived-requires : tie.Need-arrived-requires
 arrived-requires c κs = search needs
@@ -62,15 +63,15 @@ returns-3 : tie.Need-returns-3
 unfolding nextPlace placeAfter outOfTurn overWeight
 returns-3 c =
     let arrived = c .arrived in
-    let args = c .before .before .before .before .before .before .args in
-    let pre = c .before .before .before .before .before .before .pre in
+    let args = c .before .before .before .before .before .before .before .args in
+    let pre = c .before .before .before .before .before .before .before .pre in
     let if1 = c .before .before .before .before .before .if1 in
     let weight-at = c .before .before .before .before .weight-at in
     let wide = c .before .before .before .wide in
     let if2 = c .before .before .if2 in
     let after-stopped = c .before .after-stopped in
     arrived .ensures
-    ∙ step-arrives (args .run) (Stopped (args .lost)) pre (if1 .left)
+    ∙ step-arrives (args .run) (Stopped (args .lost)) pre (awaits-none (args .run .place) (if1 .left))
     (rw (← (weight-at .ensures .0), ← (wide .ensures .0)) (le-ltb _ _ (if2 .left))) (after-stopped .result) (after-stopped .ensures)
 
 pub stopped-spec : {M : Type 1} → statement M

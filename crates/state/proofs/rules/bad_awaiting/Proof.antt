@@ -1,5 +1,5 @@
 -- `state::rules::bad_awaiting` meets its contract. The start's mark is 0, so that one test serves both. Assumes nothing.
-use borrow.Author.Tests.{not-true, not-false}
+use borrow.Author.Tests.{eq-eqb, ne-eqb}
 use Rattle.state.specs.State.{badAwaiting}
 use Rattle.state.proofs.Copies.{no-mark}
 use borrow.Author.Needs.{needs}
@@ -11,7 +11,7 @@ unfolding badAwaiting
 returns c =
     let args = c .before .before .args in
     let if1 = c .if1 in
-    rw (not-true (args .run .place .awaiting) (if1 .taken))
+    rw (eq-eqb (args .run .place .awaiting) 0 (if1 .taken))
 
 mark-at-requires : tie.Need-mark-at-requires
 mark-at-requires c κs = search needs
@@ -22,7 +22,7 @@ returns-2 c =
     let args = c .before .before .before .args in
     let if1 = c .before .if1 in
     let mark-at = c .mark-at in
-    rw (not-false (args .run .place .awaiting) (if1 .left), mark-at .ensures) (no-mark (args .run .marks) (args .run .place .position))
+    rw (ne-eqb (args .run .place .awaiting) 0 (if1 .left), mark-at .ensures) (no-mark (args .run .marks) (args .run .place .position))
 
 pub bad-awaiting-spec : {M : Type 1} → statement M
 bad-awaiting-spec = tie.close (tie.spec returns mark-at-requires returns-2)

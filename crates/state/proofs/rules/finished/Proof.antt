@@ -1,4 +1,6 @@
 -- `state::rules::finished` meets its contract. The two tests in their order. Assumes nothing.
+use mathlib.Core.Path.{sym}
+use mathlib.Core.Bool.{Bool·not-not}
 use borrow.Author.Tests.{eq-eqb, ne-eqb}
 use Rattle.state.specs.State.{finished}
 use Rattle.state.proofs.rules.finished.Statement.{statement}
@@ -14,7 +16,7 @@ returns-2 : tie.Need-returns-2
 unfolding finished
 returns-2 c =
     let if1 = c .before .if1 in
-    rw (eq-eqb _ _ (if1 .left))
+    rw (eq-eqb _ _ (if1 .left)) (sym (Bool·not-not _))
 
 pub finished-spec : {M : Type 1} → statement M
 finished-spec = tie.close (tie.spec returns returns-2)
