@@ -167,8 +167,8 @@ module _ (run : Run) (a b : List ℕ) (k : ℕ) (whole : length a ≡ recordLeng
 pub two-logs : (run : Run) (a b : List ℕ) (k : ℕ) → length a ≡ recordLength * k → OneLog run a b
 two-logs run [] b k whole =
     record {
-      went-on = λ e. sym (log-before run b) ∙ ap (λ (r : Run). orBefore run (logOf r b)) (sym (none-same run));
-      stopped = λ h e. absurd (omega arith);
+      accepted-first = λ e. sym (log-before run b) ∙ ap (λ (r : Run). orBefore run (logOf r b)) (sym (none-same run));
+      refused-first = λ h e. absurd (omega arith);
     }
 two-logs run (x ∷ xs) b k whole =
-    record { went-on = λ e. goes-on run (x ∷ xs) b k whole (omega arith) e; stopped = λ h e. stops (x ∷ xs) b k whole run h e }
+    record { accepted-first = λ e. goes-on run (x ∷ xs) b k whole (omega arith) e; refused-first = λ h e. stops (x ∷ xs) b k whole run h e }

@@ -31,8 +31,8 @@ eventsOf log = eventsTo log (recordCount log)
 
 -- log b followed after log a, and both as one log: a refusal in either hands back the state from before a
 pub record OneLog (run : Run) (a b : List ℕ) : Type 0 where
-  pub went-on : logOf run a .number ≡ 0 → logOf run (a ++ b) ≡ orBefore run (logOf (logOf run a .run) b)
-  pub stopped : 0 < length a → (logOf run a .number ≡ 0 → ⊥) → logOf run (a ++ b) ≡ logOf run a
+  pub accepted-first : logOf run a .number ≡ 0 → logOf run (a ++ b) ≡ orBefore run (logOf (logOf run a .run) b)
+  pub refused-first : 0 < length a → (logOf run a .number ≡ 0 → ⊥) → logOf run (a ++ b) ≡ logOf run a
 
 -- each event tried in turn, whether or not those before it were accepted: the state after them, and those that were accepted
 unfoldable pub tried : Run → List Event → Run
