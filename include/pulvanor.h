@@ -4,10 +4,11 @@
 
        cc -Iinclude program.c target/staticlib/libpulvanor.a
 
-   Every function takes every value of its arguments. Of a pointer and the length after it C itself asks that
-   they are those of memory that can be read (and, for a buffer, written), that nothing else writes it
-   meanwhile, and that the pointer is not null even where the length is 0. Nothing is kept between two calls,
-   no memory is asked for, and threads may call at once.
+   Every function takes every value of its numbers, bytes and states. Of a pointer and the length after it is
+   asked that they are those of memory that can be read (and, for a buffer, written), that the buffer overlaps
+   nothing else that is handed in, that nothing else writes to either meanwhile, and that the pointer is not
+   null even where the length is 0. Nothing is kept between two calls, no memory is asked for, and threads may
+   call at once.
 
    `number` in an answer is 0 if the call is accepted, and else the one refusal of document 01 whose condition
    is the first to hold. */
@@ -67,7 +68,7 @@ struct pulvanor_sums {
 };
 
 /* Where a run stands: after so many tasks, and whether the verification there is awaited. Any byte that is not
-   0 says that it is; the library writes 1. */
+   0 says that it is. An accepted event writes 0 or 1; where no event is accepted, the byte given comes back. */
 struct pulvanor_place {
     size_t position;
     uint8_t awaiting;
@@ -92,7 +93,8 @@ struct pulvanor_outcome {
 uint64_t pulvanor_growth(uint64_t y);
 uint64_t pulvanor_mean_growth(uint64_t y);
 
-/* The section of this kind, 1 (platform) or 2 (weights). Refusals 1 to 6; 6 for any other kind. */
+/* The section of this kind, 1 (platform) or 2 (weights). Refusals 1 to 6; any other kind is refused by 6, after
+   1 to 5. */
 struct pulvanor_found pulvanor_lookup(const uint8_t *sheet, size_t sheet_length, uint64_t kind);
 
 /* The time of the sheet under these marks, D(n) of document 01. Refusals 1 to 10 and 13. */

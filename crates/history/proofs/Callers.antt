@@ -1,20 +1,23 @@
 -- What a caller holds: a start that was accepted, and what was followed after it, by events or by logs, one after another, some of them refused. In each case
--- the run stands where the history of the accepted events says, with its five sums. Assumes nothing.
+-- the run keeps its values and marks, stands where the history of the accepted events says, and has its five sums. Assumes nothing.
 use Prim.Native.Nat.{ℕ, zero, suc}
 use mathlib.Core.Path.{_≡_, refl, sym, _∙_, ap, fun-ext}
-use mathlib.Core.Bool.{cond}
+use mathlib.Core.Bool.{Bool, true, false, cond}
 use mathlib.Core.List.{List, [], _∷_, _++_}
 use native.Mathlib.Decide.{ℕ-discrete}
 use borrow.Author.Tests.{eq-eqb, ne-eqb}
 use lib.Dec.{eqb}
+use lib.ListN.{getD, replicate}
+use Rattle.chain.specs.Time.{Marks}
+use Rattle.job.specs.Job.{taskLimit, zeroJob}
+use Rattle.job.specs.declared.Job.{Job}
 use Rattle.sheet.specs.Reading.{jobOf}
 use Rattle.marks.specs.Marks.{marksOf}
-use Rattle.state.specs.State.{totalOf, marksIn, beginning, fresh}
-use Rattle.state.specs.declared.Place.{Place}
+use Rattle.state.specs.State.{totalOf, marksIn, beginning, fresh, zeroRun, ZeroPast}
 use Rattle.state.specs.declared.Run.{Run}
-use Rattle.state.proofs.Fresh.{cleared-same}
-use Rattle.following.specs.Run.{accepted, stepOf}
-use Rattle.following.specs.Start.{startOf}
+use Rattle.state.proofs.Fresh.{cleared-same, fresh-past-n}
+use Rattle.following.specs.Run.{accepted, standing, stepOf}
+use Rattle.following.specs.Start.{startRefusal, startOf}
 use Rattle.following.specs.declared.Event.{Event}
 use Rattle.following.specs.declared.Stepped.{Stepped}
 use Rattle.logs.specs.Log.{logOf}
@@ -75,36 +78,60 @@ module _ (sheet marks : List ℕ) (started : startOf sheet marks .number ≡ 0) 
       at zero = refl
       at (suc j) = cleared-same (jobOf sheet .tasks) marks (begun .long) (begun .few) j
 
-  -- through any accepted events the run stands where the history of the sheet, the marks and the events says, with its five sums
+  -- through any accepted events the run keeps its sheet's values and marks, stands where the history of the sheet, the marks and the events says, and has its
+  -- five sums
   pub start-follows-history : (events : List Event) → steps (startOf sheet marks .run) events .number ≡ 0
-      → steps (startOf sheet marks .run) events .run .place ≡ placeOf (jobOf sheet) (marksOf marks) events
+      → steps (startOf sheet marks .run) events .run ≡ standing (startOf sheet marks .run) (placeOf (jobOf sheet) (marksOf marks) events)
   start-follows-history events e =
-      ap (λ (r : Run). r .place) (follows-history (startOf sheet marks .run) start-begins events e) ∙ rw (start-job, start-marks)
+      follows-history (startOf sheet marks .run) start-begins events e
+      ∙ ap (standing (startOf sheet marks .run)) (ap (λ (j : Job). placeOf j (marksIn (startOf sheet marks .run)) events) start-job
+      ∙ ap (λ (f : Marks). placeOf (jobOf sheet) f events) start-marks)
 
   -- the same of an accepted log
   pub log-follows-history : (log : List ℕ) → logOf (startOf sheet marks .run) log .number ≡ 0
-      → logOf (startOf sheet marks .run) log .run .place ≡ placeOf (jobOf sheet) (marksOf marks) (eventsOf log)
+      → logOf (startOf sheet marks .run) log .run ≡ standing (startOf sheet marks .run) (placeOf (jobOf sheet) (marksOf marks) (eventsOf log))
   log-follows-history log e =
       let same = log-is-steps (startOf sheet marks .run) log e in
-      ap (λ (s : Stepped). s .run .place) same ∙ start-follows-history (eventsOf log) (ap (λ (s : Stepped). s .number) (sym same) ∙ e)
+      ap (λ (s : Stepped). s .run) same ∙ start-follows-history (eventsOf log) (ap (λ (s : Stepped). s .number) (sym same) ∙ e)
 
   -- and its five sums added are the ticks of the log's events
   pub log-ticks : (log : List ℕ) → logOf (startOf sheet marks .run) log .number ≡ 0
       → totalOf (logOf (startOf sheet marks .run) log .run .place .sums) ≡ ticks (jobOf sheet) (marksOf marks) (eventsOf log)
   unfolding placeOf
   log-ticks log e =
-      ap (λ (p : Place). totalOf (p .sums)) (log-follows-history log e) ∙ sym (ticks-are-sums (jobOf sheet) (marksOf marks) (eventsOf log))
+      ap (λ (r : Run). totalOf (r .place .sums)) (log-follows-history log e) ∙ sym (ticks-are-sums (jobOf sheet) (marksOf marks) (eventsOf log))
 
   -- events tried in turn, some of them refused: the history is that of the accepted ones
   pub tried-follows-history : (events : List Event)
-      → tried (startOf sheet marks .run) events .place ≡ placeOf (jobOf sheet) (marksOf marks) (taken (startOf sheet marks .run) events)
+      → tried (startOf sheet marks .run) events
+      ≡ standing (startOf sheet marks .run) (placeOf (jobOf sheet) (marksOf marks) (taken (startOf sheet marks .run) events))
   tried-follows-history events =
       let same = taken-steps (startOf sheet marks .run) events in
-      sym (ap (λ (s : Stepped). s .run .place) same) ∙ start-follows-history (taken (startOf sheet marks .run) events) (ap (λ (s : Stepped). s .number) same)
+      sym (ap (λ (s : Stepped). s .run) same) ∙ start-follows-history (taken (startOf sheet marks .run) events) (ap (λ (s : Stepped). s .number) same)
 
-  -- logs tried in turn, some of them refused
+  -- logs tried in turn, some of them refused; one event is a log of one record
   pub logs-follow-history : (logs : List (List ℕ))
-      → triedLogs (startOf sheet marks .run) logs .place ≡ placeOf (jobOf sheet) (marksOf marks) (takenLogs (startOf sheet marks .run) logs)
+      → triedLogs (startOf sheet marks .run) logs
+      ≡ standing (startOf sheet marks .run) (placeOf (jobOf sheet) (marksOf marks) (takenLogs (startOf sheet marks .run) logs))
   logs-follow-history logs =
       let same = logs-steps (startOf sheet marks .run) logs in
-      sym (ap (λ (s : Stepped). s .run .place) same) ∙ start-follows-history (takenLogs (startOf sheet marks .run) logs) (ap (λ (s : Stepped). s .number) same)
+      sym (ap (λ (s : Stepped). s .run) same) ∙ start-follows-history (takenLogs (startOf sheet marks .run) logs) (ap (λ (s : Stepped). s .number) same)
+
+-- the state with every field 0 has 0 past its no tasks
+zero-past-n : ZeroPast zeroRun
+unfolding zeroRun zeroJob
+zero-past-n = record { weights = λ j h. zeros taskLimit j; marks = λ j h. zeros taskLimit j }
+  where
+    zeros : (n i : ℕ) → _≡_ {A = ℕ} (getD (replicate n 0) i 0) 0
+    zeros zero i = refl
+    zeros (suc n) zero = refl
+    zeros (suc n) (suc i) = zeros n i
+
+-- every start, accepted or refused, gives a state with 0 past task n
+pub start-past-n : (sheet marks : List ℕ) → ZeroPast (startOf sheet marks .run)
+unfolding startOf
+start-past-n sheet marks = go (eqb (startRefusal sheet marks) 0)
+  where
+    go : (b : Bool) → ZeroPast (cond b (fresh (jobOf sheet) marks) zeroRun)
+    go true = fresh-past-n (jobOf sheet) marks
+    go false = zero-past-n

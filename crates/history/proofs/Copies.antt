@@ -15,7 +15,8 @@ use Rattle.state.specs.declared.Run.{Run}
 use Rattle.following.specs.Run.{afterDone, afterPassed, backToMemory, backToDisk, placeAfter, nextPlace, outOfTurn, standing}
 use Rattle.following.specs.declared.Event.{Event}
 use Rattle.following.specs.declared.Event.the-variants.{Done, Passed, Failed, Stopped}
-use Rattle.history.specs.History.{History, happened, passedBefore, historyAt}
+use Rattle.history.specs.History.{History, happened}
+use Rattle.history.specs.States.{passedBefore, historyAt}
 
 -- seen from a last position, it is the last position still, at its own level and at a lower one
 last-saved : (k j : ℕ) (f : Marks) (v : ℕ) → k ≤ j → last k f (suc (last j f v)) ≡ last j f v

@@ -27,8 +27,9 @@ use Rattle.following.specs.Run.{afterDone, afterPassed, backToMemory, backToDis
 use Rattle.following.specs.declared.Event.{Event}
 use Rattle.following.specs.declared.Event.the-variants.{Done, Passed, Failed, Stopped}
 use Rattle.history.specs.Events.{steps}
-use Rattle.history.specs.History.{History, atStart, happened, historyFrom, history, historyAt}
-use Rattle.history.specs.Counts.{countFrom, count, joinsKept, moves, joinsRedone, joinsVerify, joinsSaves, joinsRecovery, sumsOf, placeOf, ticksOf, ticks, Added, Plain, StepCounts}
+use Rattle.history.specs.History.{History, atStart, happened, historyFrom, history}
+use Rattle.history.specs.Counts.{countFrom, count, joinsKept, moves, joinsRedone, joinsVerify, joinsSaves, joinsRecovery, sumsOf, placeOf, ticksOf, ticks}
+use Rattle.history.specs.States.{historyAt, Added, Plain, StepCounts}
 use Rattle.history.proofs.Accepted.{step-accepted}
 use Rattle.history.proofs.Copies.{history-goes-on}
 
@@ -127,7 +128,7 @@ next-plain run Passed = refl
 next-plain run Failed = refl
 next-plain run (Stopped lost) = refl
 
--- any state that 21 accepts
+-- an accepted event, from any state
 pub step-counts : (run : Run) (e : Event) → stepOf run e .number ≡ 0 → StepCounts run e (stepOf run e .run)
 step-counts run e z =
     let a = step-accepted run e z in

@@ -1,4 +1,5 @@
--- A log and its events. Record by record, a log whose records 12 accepts does what its events do one by one; a bad record gives 12 unless an event before it was refused.
+-- A log and its events. An accepted log does what its events do one by one; a refused one hands back the state from before it; a bad record gives 12 unless an
+-- event before it was refused.
 -- Assumes nothing.
 use Prim.Native.Nat.{ℕ, zero, suc, _<_}
 use mathlib.Core.Path.{_≡_, refl, sym, _∙_, ap}
@@ -19,7 +20,7 @@ use Rattle.following.specs.declared.Event.{Event}
 use Rattle.following.specs.declared.Stepped.{Stepped}
 use Rattle.logs.specs.Log.{recordCount, recordAt, badRecord, eventOf, recorded, applied, orBefore, emptyLog, logOf}
 use Rattle.logs.proofs.Records.{accepted-is, applied-stays}
-use Rattle.history.specs.Events.{steps, Whole, eventsTo, eventsOf}
+use Rattle.history.specs.Events.{steps, GoodRecords, eventsTo, eventsOf}
 
 -- events, then others
 pub steps-append : (run : Run) (es others : List Event)
@@ -66,12 +67,12 @@ unfolding applied eventsTo
 record-more run log k e w =
     recorded-event (applied run log k) (recordAt log k) w ∙ rw e (sym (steps-more run (eventsTo log k) (eventOf (recordAt log k))))
 
-applied-is-steps : (run : Run) (log : List ℕ) (k : ℕ) → Whole log k → applied run log k ≡ steps run (eventsTo log k)
+applied-is-steps : (run : Run) (log : List ℕ) (k : ℕ) → GoodRecords log k → applied run log k ≡ steps run (eventsTo log k)
 applied-is-steps run log zero w = no-record run log
 applied-is-steps run log (suc k) w = record-more run log k (applied-is-steps run log k (λ i h. w i (omega arith))) (w k (omega arith))
 
 -- a log of records that 12 accepts gives what its events, applied one by one, give; on the first refusal, the state from before the log
-pub whole-log-is-steps : (run : Run) (log : List ℕ) → 0 < length log → Whole log (recordCount log) → logOf run log ≡ orBefore run (steps run (eventsOf log))
+pub whole-log-is-steps : (run : Run) (log : List ℕ) → 0 < length log → GoodRecords log (recordCount log) → logOf run log ≡ orBefore run (steps run (eventsOf log))
 unfolding logOf eventsOf
 whole-log-is-steps run log l w = rw (ne-eqb (length log) 0 (omega arith), applied-is-steps run log (recordCount log) w)
 
@@ -90,12 +91,12 @@ recorded-accepted s r e = go (ℕ-discrete (s .number) 0) (badRecord r) refl
     go (yes z) false q = (z, q)
     go (no z) b q = absurd (z (rw (ne-eqb _ _ z) at e))
 
-applied-whole : (run : Run) (log : List ℕ) (k : ℕ) → applied run log k .number ≡ 0 → Whole log k
+pub applied-good : (run : Run) (log : List ℕ) (k : ℕ) → applied run log k .number ≡ 0 → GoodRecords log k
 unfolding applied
-applied-whole run log zero e i h = absurd (omega arith)
-applied-whole run log (suc k) e i h =
+applied-good run log zero e i h = absurd (omega arith)
+applied-good run log (suc k) e i h =
     let one = recorded-accepted (applied run log k) (recordAt log k) e in
-    go (eq-or-lt-of-le (le-of-suc-le-suc h)) (one .1) (applied-whole run log k (one .0) i)
+    go (eq-or-lt-of-le (le-of-suc-le-suc h)) (one .1) (applied-good run log k (one .0) i)
   where
     go : (i ≡ k) ⊎ (i < k) → badRecord (recordAt log k) ≡ false → (i < k → badRecord (recordAt log i) ≡ false) → badRecord (recordAt log i) ≡ false
     go (inl q) b ih = rw q b
@@ -140,14 +141,14 @@ unfolding eventsOf
 some-is-steps run log h e =
     let answer = log-some run log h in
     let clear = sym (before-number run (applied run log (recordCount log))) ∙ ap (λ (s : Stepped). s .number) (sym answer) ∙ e in
-    answer ∙ before-accepted run _ clear ∙ applied-is-steps run log (recordCount log) (applied-whole run log (recordCount log) clear)
+    answer ∙ before-accepted run _ clear ∙ applied-is-steps run log (recordCount log) (applied-good run log (recordCount log) clear)
 
 -- an accepted log gives what its events, applied one by one, give
 pub log-is-steps : (run : Run) (log : List ℕ) → logOf run log .number ≡ 0 → logOf run log ≡ steps run (eventsOf log)
 log-is-steps run [] e = none-is-steps run e
 log-is-steps run (x ∷ xs) e = some-is-steps run (x ∷ xs) (omega arith) e
 
--- a refused log leaves the state
+-- an empty log leaves the state, and so does a refused one
 pub none-same : (run : Run) → logOf run [] .run ≡ run
 unfolding logOf emptyLog
 none-same run = go (broken run)
@@ -171,7 +172,7 @@ unfolding recordCount
 some-bytes log k h e = omega arith
 
 -- the answer up to a bad record
-bad-record : (run : Run) (log : List ℕ) (k : ℕ) → Whole log k → badRecord (recordAt log k) ≡ true
+bad-record : (run : Run) (log : List ℕ) (k : ℕ) → GoodRecords log k → badRecord (recordAt log k) ≡ true
     → applied run log (suc k) .number ≡ cond (eqb (steps run (eventsTo log k) .number) 0) Numbers.badRecord (steps run (eventsTo log k) .number)
 unfolding applied recorded
 bad-record run log k w b = rw (applied-is-steps run log k w, b) (go (eqb (steps run (eventsTo log k) .number) 0))
@@ -191,7 +192,7 @@ choice-positive n e = go (ℕ-discrete n 0)
     go (no z) = z (rw (ne-eqb _ _ z) at e)
 
 -- a bad record gives 12, unless an event before it was refused
-pub log-bad-record : (run : Run) (log : List ℕ) (k : ℕ) → k < recordCount log → Whole log k → badRecord (recordAt log k) ≡ true
+pub log-bad-record : (run : Run) (log : List ℕ) (k : ℕ) → k < recordCount log → GoodRecords log k → badRecord (recordAt log k) ≡ true
     → logOf run log ≡ refused (cond (eqb (steps run (eventsTo log k) .number) 0) Numbers.badRecord (steps run (eventsTo log k) .number)) run
 unfolding logOf orBefore
 log-bad-record run log k h w b =

@@ -1,24 +1,27 @@
--- Two logs in turn are one log: where the first has whole records, the records of both are those of the first, then those of the second. Assumes nothing.
-use Prim.Native.Nat.{ℕ, zero, suc, _+_, _*_, _≤_, _<_}
+-- Two logs in turn are one log: where the first has whole records, as an accepted log has, the records of both are those of the first, then those of the
+-- second. Assumes nothing.
+use Prim.Native.Nat.{ℕ, zero, suc, _+_, _-_, _*_, _≤_, _<_}
 use mathlib.Core.Path.{_≡_, refl, sym, _∙_, ap}
-use mathlib.Core.Bool.{false, cond}
+use mathlib.Core.Bool.{Bool, true, false, cond}
 use mathlib.Core.List.{List, [], _∷_, _++_}
 use native.Mathlib.Nat.{le-refl, le-of-lt}
 use native.Mathlib.Decide.{ℕ-discrete}
 use native.Mathlib.Omega.{arith}
-use borrow.Author.Tests.{eq-eqb, ne-eqb}
+use borrow.Author.Tests.{eq-eqb, ne-eqb, ltb-false}
 use lib.Dec.{eqb}
-use lib.ListN.{length, take, drop, length-append, length-drop}
+use lib.ListN.{length, take, drop, length-append, length-drop, take-append-drop}
 use lib.Seq.{take-append-le, drop-append-le, drop-append-add}
+use Rattle.lists.proofs.Lists.{or-fails}
+use Rattle.refusals.specs.Numbers
 use Rattle.state.specs.State.{broken}
 use Rattle.following.specs.Run.{stepOf, accepted, refused}
 use Rattle.state.specs.declared.Run.{Run}
 use Rattle.following.specs.declared.Stepped.{Stepped}
-use Rattle.logs.specs.Log.{recordLength, recordCount, recordAt, eventOf, recorded, applied, orBefore, emptyLog, logOf}
+use Rattle.logs.specs.Log.{recordLength, recordCount, recordAt, badRecord, eventOf, recorded, applied, orBefore, emptyLog, logOf}
 use Rattle.logs.proofs.Records.{accepted-is, recorded-refused, applied-zero, applied-suc}
 use Rattle.history.specs.Events.{OneLog}
 use Rattle.history.proofs.Unbroken.{step-keeps-sound}
-use Rattle.history.proofs.Logs.{recorded-accepted, before-number, before-accepted, before-refused, log-some, recorded-event, none-same, log-refused-same}
+use Rattle.history.proofs.Logs.{recorded-accepted, before-number, before-accepted, before-refused, log-some, recorded-event, none-same, log-refused-same, applied-good}
 
 -- the answer to records after s
 after : Stepped → List ℕ → ℕ → Stepped
@@ -153,6 +156,22 @@ second run middle [] u = ap (orBefore run) (none-applied middle ∙ sym (none-ac
 second run middle (x ∷ xs) u =
     sym (ap (orBefore run) (log-some middle (x ∷ xs) (omega arith)) ∙ before-before run middle (applied middle (x ∷ xs) (recordCount (x ∷ xs))))
 
+no-record : (log : List ℕ) → 0 < length log → recordCount log ≡ 0 → ⊥
+unfolding recordCount
+no-record log h e = omega arith
+
+some-record : (log : List ℕ) → 0 < length log → 0 < recordCount log
+unfolding recordCount
+some-record log h = omega arith
+
+none-sound : (run : Run) → logOf run [] .number ≡ 0 → broken (logOf run [] .run) ≡ false
+unfolding logOf emptyLog
+none-sound run e = go (broken run) refl
+  where
+    go : (b : Bool) → broken run ≡ b → broken (cond (broken run) (refused Numbers.broken run) (accepted run) .run) ≡ false
+    go true q = absurd (omega (arith, rw q at e))
+    go false q = rw q q
+
 module _ (run : Run) (a b : List ℕ) (k : ℕ) (whole : length a ≡ recordLength * k) where
   goes-on : 0 < length a → logOf run a .number ≡ 0 → logOf run (a ++ b) ≡ orBefore run (logOf (logOf run a .run) b)
   goes-on h e =
@@ -163,12 +182,55 @@ module _ (run : Run) (a b : List ℕ) (k : ℕ) (whole : length a ≡ recordLeng
       ∙ second run (applied run a k .run) b (applied-unbroken run a k (omega (arith, whole)) clear)
       ∙ ap (λ (s : Stepped). orBefore run (logOf (s .run) b)) (sym answer)
 
--- two logs in turn are one log, where the first has whole records
-pub two-logs : (run : Run) (a b : List ℕ) (k : ℕ) → length a ≡ recordLength * k → OneLog run a b
-two-logs run [] b k whole =
+-- a record that 12 accepts is not cut short
+record-long : (r : List ℕ) → badRecord r ≡ false → recordLength ≤ length r
+unfolding badRecord
+record-long r e = ltb-false (length r) recordLength (or-fails _ _ e .0)
+
+record-within : (log : List ℕ) (i : ℕ) → length (recordAt log i) ≤ length log - recordLength * i
+unfolding recordAt
+record-within log i =
+    let rest : List ℕ = drop (recordLength * i) log in
+    let both : length (take recordLength rest) + length (drop recordLength rest) ≡ length rest =
+    sym (length-append (take recordLength rest) (drop recordLength rest)) ∙ ap length (take-append-drop recordLength rest) in
+    omega (arith, both, length-drop (recordLength * i) log)
+
+-- so an accepted log has whole records
+records-whole : (log : List ℕ) (c : ℕ) → recordCount log ≡ suc c → recordLength ≤ length (recordAt log c) → length log ≡ recordLength * suc c
+unfolding recordCount
+records-whole log c e h = omega (arith, e, h, record-within log c)
+
+log-whole : (run : Run) (log : List ℕ) → 0 < length log → logOf run log .number ≡ 0 → length log ≡ recordLength * recordCount log
+log-whole run log h e = go (recordCount log) refl
+  where
+    clear : applied run log (recordCount log) .number ≡ 0
+    clear = sym (before-number run (applied run log (recordCount log))) ∙ ap (λ (s : Stepped). s .number) (sym (log-some run log h)) ∙ e
+
+    go : (c : ℕ) → recordCount log ≡ c → length log ≡ recordLength * recordCount log
+    go zero q = absurd (no-record log h q)
+    go (suc c) q =
+        rw q (records-whole log c q (record-long (recordAt log c) (applied-good run log (recordCount log) clear c (rw q (omega arith)))))
+
+-- two logs in turn are one log
+pub two-logs : (run : Run) (a b : List ℕ) → OneLog run a b
+two-logs run [] b =
     record {
       accepted-first = λ e. sym (log-before run b) ∙ ap (λ (r : Run). orBefore run (logOf r b)) (sym (none-same run));
-      refused-first = λ h e. absurd (omega arith);
+      refused-first = λ k h w e. absurd (omega (arith, w));
     }
-two-logs run (x ∷ xs) b k whole =
-    record { accepted-first = λ e. goes-on run (x ∷ xs) b k whole (omega arith) e; refused-first = λ h e. stops (x ∷ xs) b k whole run h e }
+two-logs run (x ∷ xs) b =
+    record {
+      accepted-first = λ e. goes-on run (x ∷ xs) b (recordCount (x ∷ xs)) (log-whole run (x ∷ xs) (omega arith) e) (omega arith) e;
+      refused-first = λ k h w e. stops (x ∷ xs) b k w run (omega arith) e;
+    }
+
+-- what a log accepts, 21 accepts
+pub log-keeps-sound : (run : Run) (log : List ℕ) → logOf run log .number ≡ 0 → broken (logOf run log .run) ≡ false
+log-keeps-sound run [] e = none-sound run e
+log-keeps-sound run (x ∷ xs) e =
+    let h : 0 < length (x ∷ xs) = omega arith in
+    let log : List ℕ = x ∷ xs in
+    let clear : applied run (x ∷ xs) (recordCount (x ∷ xs)) .number ≡ 0 =
+    sym (before-number run (applied run (x ∷ xs) (recordCount (x ∷ xs)))) ∙ ap (λ (s : Stepped). s .number) (sym (log-some run (x ∷ xs) h)) ∙ e in
+    let answer = log-some run (x ∷ xs) h ∙ before-accepted run (applied run (x ∷ xs) (recordCount (x ∷ xs))) clear in
+    rw answer (applied-unbroken run (x ∷ xs) (recordCount (x ∷ xs)) (some-record (x ∷ xs) h) clear)

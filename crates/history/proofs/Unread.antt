@@ -32,7 +32,7 @@ use Rattle.state.proofs.Copies.{last-up-to}
 use Rattle.state.proofs.Soundness.{run-place}
 use Rattle.following.proofs.Steps.{task-runs}
 use Rattle.logs.specs.Log.{recordCount, recordAt, badRecord, eventOf, recorded, applied, orBefore, emptyLog, logOf}
-use Rattle.history.specs.Working.Entries.{withEntries, answerWith, Agree}
+use Rattle.history.specs.Entries.{withEntries, answerWith, Agree}
 use Rattle.history.proofs.Accepted.{step-accepted}
 
 -- lists that agree up to n agree at each entry below n

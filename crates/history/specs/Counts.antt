@@ -1,7 +1,6 @@
--- What a run has counted, from its job, its marks and its list of events alone: each sum by itself, over the list of events. Nothing here is shared with the
--- step of a run.
+-- What a run has counted, from its job, its marks and its list of events alone: each sum by itself, over the list of events. Weights
+-- and costs are those of the job; no definition of the step of a run is used.
 use Prim.Native.Nat.{ℕ, _+_, _-_}
-use mathlib.Core.Path.{_≡_}
 use mathlib.Core.Bool.{cond}
 use mathlib.Core.List.{List, [], _∷_}
 use lib.Dec.{leb}
@@ -9,14 +8,11 @@ use Rattle.chain.specs.Time.{Marks, memory, disk}
 use Rattle.job.specs.Job.{weightAt, between}
 use Rattle.job.specs.declared.Job.{Job}
 use Rattle.costs.specs.Costs.{vAt, cmAt, cdAt, rdAt, rmAt}
-use Rattle.state.specs.State.{totalOf, marksIn, awaits}
 use Rattle.state.specs.declared.Sums.{Sums}
 use Rattle.state.specs.declared.Place.{Place}
-use Rattle.state.specs.declared.Run.{Run}
-use Rattle.following.specs.Run.{standing}
 use Rattle.following.specs.declared.Event.{Event}
 use Rattle.following.specs.declared.Event.the-variants.{Done, Passed, Failed, Stopped}
-use Rattle.history.specs.History.{History, atStart, happened, history, historyAt}
+use Rattle.history.specs.History.{History, atStart, happened, history}
 
 -- ticks by event, from where the run stood before it
 abbrev pub Count : Type 0
@@ -100,24 +96,3 @@ ticksOf job f h (Stopped lost) = lost + rdAt job (h .onDisk)
 -- the ticks of all events
 unfoldable pub ticks : Job → Marks → List Event → ℕ
 ticks job f events = count (ticksOf job f) f events
-
--- what an event of a run adds to the sums: each by itself, and together the event's ticks
-pub record Added (job : Job) (f : Marks) (h : History) (e : Event) (before after : Sums) : Type 0 where
-  pub kept : after .kept + moves job h e ≡ before .kept + joinsKept job h e
-  pub redone : after .redone ≡ before .redone + (joinsRedone h e + moves job h e)
-  pub verify : after .verify ≡ before .verify + joinsVerify job h e
-  pub saves : after .saves ≡ before .saves + joinsSaves job f h e
-  pub recovery : after .recovery ≡ before .recovery + joinsRecovery job h e
-  pub together : totalOf after ≡ totalOf before + ticksOf job f h e
-
--- the byte that says whether a verification is awaited is 0 or 1
-abbrev pub Plain : Place → Type 0
-Plain place = place .awaiting ≡ cond (awaits place) 1 0
-
--- what an accepted event does to any state: its sheet and marks stay, it goes where the history goes from the copies that the marks passed have saved, and
--- adds to the sums what the history counts
-pub record StepCounts (run : Run) (e : Event) (after : Run) : Type 0 where
-  pub same-sheet : after ≡ standing run (after .place)
-  pub goes-on : historyAt after ≡ happened (marksIn run) (historyAt run) e
-  pub plain : Plain (after .place)
-  pub added : Added (run .job) (marksIn run) (historyAt run) e (run .place .sums) (after .place .sums)

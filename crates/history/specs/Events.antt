@@ -1,5 +1,5 @@
 -- Events applied one by one, the events of a log, and events or logs tried in turn.
-use Prim.Native.Nat.{ℕ, zero, suc, _<_, _+_}
+use Prim.Native.Nat.{ℕ, zero, suc, _<_, _*_}
 use mathlib.Core.Path.{_≡_}
 use mathlib.Core.Bool.{false, cond}
 use mathlib.Core.List.{List, [], _∷_, _++_}
@@ -9,7 +9,7 @@ use Rattle.following.specs.Run.{accepted, stepOf}
 use Rattle.state.specs.declared.Run.{Run}
 use Rattle.following.specs.declared.Event.{Event}
 use Rattle.following.specs.declared.Stepped.{Stepped}
-use Rattle.logs.specs.Log.{recordCount, recordAt, badRecord, eventOf, orBefore, logOf}
+use Rattle.logs.specs.Log.{recordLength, recordCount, recordAt, badRecord, eventOf, orBefore, logOf}
 
 -- events applied one by one; nothing is applied after a refusal
 unfoldable pub steps : Run → List Event → Stepped
@@ -17,8 +17,8 @@ steps run [] = accepted run
 steps run (e ∷ es) = cond (eqb (stepOf run e .number) 0) (steps (stepOf run e .run) es) (stepOf run e)
 
 -- 12 accepts the records before k
-abbrev pub Whole : List ℕ → ℕ → Type 0
-Whole log k = (i : ℕ) → i < k → badRecord (recordAt log i) ≡ false
+abbrev pub GoodRecords : List ℕ → ℕ → Type 0
+GoodRecords log k = (i : ℕ) → i < k → badRecord (recordAt log i) ≡ false
 
 -- the events of the records before k
 unfoldable pub eventsTo : List ℕ → ℕ → List Event
@@ -29,10 +29,11 @@ eventsTo log (suc k) = eventsTo log k ++ (eventOf (recordAt log k) ∷ [])
 unfoldable pub eventsOf : List ℕ → List Event
 eventsOf log = eventsTo log (recordCount log)
 
--- log b followed after log a, and both as one log: a refusal in either hands back the state from before a
+-- log b followed after log a, and both as one log. Where a is accepted, the one log gives what b gives from the state after a, but that a refusal hands back
+-- the state from before a. Where a, of k whole records, is refused, so is the one log
 pub record OneLog (run : Run) (a b : List ℕ) : Type 0 where
   pub accepted-first : logOf run a .number ≡ 0 → logOf run (a ++ b) ≡ orBefore run (logOf (logOf run a .run) b)
-  pub refused-first : 0 < length a → (logOf run a .number ≡ 0 → ⊥) → logOf run (a ++ b) ≡ logOf run a
+  pub refused-first : (k : ℕ) → 0 < k → length a ≡ recordLength * k → (logOf run a .number ≡ 0 → ⊥) → logOf run (a ++ b) ≡ logOf run a
 
 -- each event tried in turn, whether or not those before it were accepted: the state after them, and those that were accepted
 unfoldable pub tried : Run → List Event → Run

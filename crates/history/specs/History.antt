@@ -1,12 +1,10 @@
 -- Where a run stands, from its marks and its list of events alone. The copies are kept explicitly: the position last saved in memory, and the one last saved
--- on disk. Nothing here is shared with the step of a run.
+-- on disk. No definition of the step of a run is used.
 use Prim.Native.Nat.{ℕ, suc}
 use mathlib.Core.Bool.{Bool, false, not, cond}
 use mathlib.Core.List.{List, [], _∷_}
 use lib.Dec.{leb, eqb}
-use Rattle.chain.specs.Time.{Marks, memory, disk, last}
-use Rattle.state.specs.State.{marksIn, awaits}
-use Rattle.state.specs.declared.Run.{Run}
+use Rattle.chain.specs.Time.{Marks, memory, disk}
 use Rattle.following.specs.declared.Event.{Event}
 use Rattle.following.specs.declared.Event.the-variants.{Done, Passed, Failed, Stopped}
 
@@ -44,17 +42,3 @@ historyFrom f h (e ∷ es) = historyFrom f (happened f h e) es
 -- the history of a run's events
 unfoldable pub history : Marks → List Event → History
 history f events = historyFrom f atStart events
-
--- the marks that a state has passed are those before this position: its own while its verification is awaited, or the next
-abbrev pub passedBefore : Run → ℕ
-passedBefore run = cond (awaits (run .place)) (run .place .position) (suc (run .place .position))
-
--- a state as a history that goes on: the copies are the last ones that the marks passed have saved
-unfoldable pub historyAt : Run → History
-historyAt run =
-    record {
-      position = run .place .position;
-      awaiting = awaits (run .place);
-      inMemory = last memory (marksIn run) (passedBefore run);
-      onDisk = last disk (marksIn run) (passedBefore run);
-    }

@@ -1,4 +1,5 @@
 pub mod Events
 pub mod History
 pub mod Counts
-pub mod Working
+pub mod States
+pub mod Entries

@@ -13,6 +13,6 @@ row v cm cd = record { v = v; cm = cm; cd = cd }
 unfoldable pub table : List Pays
 table = row false false false ∷ row true false false ∷ row true true false ∷ row true true true ∷ []
 
--- what the mark k pays; 9 refuses a mark above 3, and 21 a state with one, so the row for it is never asked for
+-- what the mark k pays; 9 refuses a mark above 3, and 21 a state with one at a task, so what such a mark pays decides nothing
 unfoldable pub paysOf : ℕ → Pays
 paysOf k = getD table k (row false false false)

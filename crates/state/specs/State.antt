@@ -21,7 +21,7 @@ use Rattle.state.specs.declared.Run.{Run}
 abbrev pub beginning : Place
 beginning = record { position = 0; awaiting = 0; sums = record { kept = 0; redone = 0; verify = 0; saves = 0; recovery = 0 } }
 
--- the first n entries of a list, and 0 past them
+-- the entries of a state: the first n of a list, as far as there is room, and 0 past them
 unfoldable pub cleared : ℕ → List ℕ → List ℕ
 cleared n l = tabulate taskLimit (λ j. cond (ltb j n) (getD l j 0) 0)
 

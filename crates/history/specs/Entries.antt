@@ -1,4 +1,4 @@
--- A state with other entries of weights and marks: the theorem on unread entries compares the two.
+-- A state with other entries of weights and marks: what the theorems on unread entries compare.
 use mathlib.Core.Path.{_≡_}
 use mathlib.Core.List.{List}
 use Prim.Native.Nat.{ℕ}

@@ -1,2 +1,0 @@
--- Definitions that the theorem on unread entries works with.
-pub mod Entries
