@@ -1,13 +1,15 @@
 -- Laws of `some`, a test over the numbers below n, and of `tabulate`, the list of a function. Assumes nothing.
 use Prim.Native.Nat.{ℕ, zero, suc, _+_, _<_}
 use mathlib.Core.Path.{_≡_, refl, sym, _∙_}
-use mathlib.Core.Bool.{Bool, true, false, _||_, _&&_, or-true, true≢false, false≢true}
+use mathlib.Core.Bool.{Bool, true, false, _||_, _&&_, cond, or-true, true≢false, false≢true}
 use mathlib.Core.Logic.{_⊎_, inl, inr}
 use mathlib.Core.List.{[], _∷_, _++_}
 use native.Mathlib.Nat.{eq-or-lt-of-le, le-of-suc-le-suc}
-use native.Mathlib.Decide.{ℕ-discrete}
+use native.Mathlib.Decide.{ℕ-discrete, decLt}
 use native.Mathlib.Numerals.{add-one}
 use native.Mathlib.Omega.{arith}
+use borrow.Author.Tests.{lt-ltb, le-ltb}
+use lib.Dec.{ltb}
 use lib.ListN.{length, getD, set, length-append, length-set, List·getD-append}
 use lib.Seq.{ext-getD, getD-set-same, getD-set-other, getD-at}
 use Rattle.lists.specs.Lists.{some, tabulate}
@@ -68,7 +70,7 @@ tabulate-same zero f g e = refl
 tabulate-same (suc n) f g e = rw (tabulate-same n f g (λ i h. e i (omega arith)), e n (omega arith))
 
 -- storing g at j turns the list of f into that of g, where the two agree elsewhere
-pub set-tabulate : (n : ℕ) (f g : ℕ → ℕ) (j : ℕ) → j < n → ((i : ℕ) → (i ≡ j → ⊥) → f i ≡ g i) → set (tabulate n f) j (g j) ≡ tabulate n g
+set-tabulate : (n : ℕ) (f g : ℕ → ℕ) (j : ℕ) → j < n → ((i : ℕ) → (i ≡ j → ⊥) → f i ≡ g i) → set (tabulate n f) j (g j) ≡ tabulate n g
 set-tabulate n f g j h same =
     ext-getD 0 _ _ (length-set (tabulate n f) j (g j) ∙ length-tabulate n f ∙ sym (length-tabulate n g)) at
   where
@@ -84,3 +86,21 @@ pub some-none : (n : ℕ) (p : ℕ → Bool) → ((j : ℕ) → j < n → p j �
 unfolding some
 some-none zero p e = refl
 some-none (suc n) p e = rw (some-none n p (λ j h. e j (omega arith))) (e n (omega arith))
+
+-- the first j values of g and 0 past them: storing the next value is one value more
+module _ (room : ℕ) (g : ℕ → ℕ) where
+  abbrev firsts : ℕ → ℕ → ℕ
+  firsts n i = cond (ltb i n) (g i) 0
+
+  pub store-next : (j : ℕ) → j < room → set (tabulate room (λ i. cond (ltb i j) (g i) 0)) j (g j) ≡ tabulate room (λ i. cond (ltb i (j + 1)) (g i) 0)
+  store-next j h = rw (← here) (set-tabulate room (firsts j) (firsts (j + 1)) j h same)
+    where
+      here : firsts (j + 1) j ≡ g j
+      here = rw (lt-ltb j (j + 1) (omega arith))
+
+      same : (i : ℕ) → (i ≡ j → ⊥) → firsts j i ≡ firsts (j + 1) i
+      same i q = go (decLt i j)
+        where
+          go : Dec (i < j) → firsts j i ≡ firsts (j + 1) i
+          go (yes l) = rw (lt-ltb i j l, lt-ltb i (j + 1) (omega arith))
+          go (no l) = rw (le-ltb i j (omega arith), le-ltb i (j + 1) (omega arith))

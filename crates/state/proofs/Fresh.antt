@@ -12,7 +12,7 @@ use lib.Dec.{ltb}
 use lib.ListN.{length, getD, take, set, List·getD-eq-default}
 use lib.Seq.{ext-getD, getD-take, length-take-le}
 use Rattle.lists.specs.Lists.{tabulate}
-use Rattle.lists.proofs.Lists.{set-tabulate, tabulate-same, length-tabulate, getD-tabulate}
+use Rattle.lists.proofs.Lists.{store-next, tabulate-same, length-tabulate, getD-tabulate}
 use Rattle.job.specs.Job.{taskLimit}
 use Rattle.job.specs.declared.Job.{Job}
 use Rattle.state.specs.State.{cleared, fresh, ZeroPast}
@@ -32,16 +32,8 @@ left-entry l n i h = rw (le-ltb i n h)
 
 -- one entry more
 pub cleared-more : (l : List ℕ) (j : ℕ) → j < taskLimit → set (cleared j l) j (getD l j 0) ≡ cleared (j + 1) l
-unfolding cleared entry
-cleared-more l j h =
-    rw (← (taken-entry l (j + 1) j (omega arith))) (set-tabulate taskLimit (entry l j) (entry l (j + 1)) j h same)
-  where
-    same : (i : ℕ) → (i ≡ j → ⊥) → entry l j i ≡ entry l (j + 1) i
-    same i d = go (decLt i j)
-      where
-        go : Dec (i < j) → entry l j i ≡ entry l (j + 1) i
-        go (yes k) = taken-entry l j i k ∙ sym (taken-entry l (j + 1) i (omega arith))
-        go (no k) = left-entry l j i (omega arith) ∙ sym (left-entry l (j + 1) i (omega arith))
+unfolding cleared
+cleared-more l j h = store-next taskLimit (λ i. getD l i 0) j h
 
 -- all of them
 pub cleared-all : (l : List ℕ) (n most : ℕ) → Entries n (length l) most → cleared most l ≡ cleared n l
