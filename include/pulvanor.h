@@ -10,8 +10,8 @@
    null even where the length is 0. Nothing is kept between two calls, no memory is asked for, and threads may
    call at once.
 
-   `number` in an answer is 0 if the call is accepted, and else the one refusal of document 01 whose condition
-   is the first to hold. */
+   `number` in an answer is 0 if the call is accepted, and else the one refusal whose condition is the first to
+   hold; README.md lists them. */
 #ifndef PULVANOR_H
 #define PULVANOR_H
 
@@ -38,6 +38,12 @@ struct pulvanor_found {
     uint64_t number;
     size_t start;
     size_t size;
+};
+
+/* 0 and how many bytes of the buffer are the joined sheet, or a refusal and 0. */
+struct pulvanor_joined {
+    uint64_t number;
+    size_t length;
 };
 
 /* The platform section of a sheet. */
@@ -96,6 +102,13 @@ uint64_t pulvanor_mean_growth(uint64_t y);
 /* The section of this kind, 1 (platform) or 2 (weights). Refusals 1 to 6; any other kind is refused by 6, after
    1 to 5. */
 struct pulvanor_found pulvanor_lookup(const uint8_t *sheet, size_t sheet_length, uint64_t kind);
+
+/* Two chains joined: a sheet with the first sheet's weights, then the second's, and the one platform, is the
+   first `length` bytes of the buffer (50 + 4 for each task). Refusals 1 to 8 of the first sheet, 1 to 8 of the
+   second, 26 (the platforms differ), then 3 (more than 64 tasks together), 7 (a total above 2^30) and 11 (the
+   buffer is shorter than the sheet). A refusal writes no byte, and later bytes are never touched. Nothing is said
+   of the least time of the whole from those of the two parts. */
+struct pulvanor_joined pulvanor_join(const uint8_t *first, size_t first_length, const uint8_t *second, size_t second_length, uint8_t *buffer, size_t buffer_length);
 
 /* The time of the sheet under these marks, D(n) of document 01. Refusals 1 to 10 and 13. */
 struct pulvanor_answer pulvanor_price(const uint8_t *sheet, size_t sheet_length, const uint8_t *marks, size_t marks_length);

@@ -73,18 +73,28 @@ pub fn to_marks(text: &mut [u8]) -> bool
     false
 }
 
+// A line of text, to a file.
+pub fn line_to(file: i32, words: &[u8]) {
+    io::write_all(file, words);
+    io::write_all(file, b"\n");
+}
+
+// A word and its number, on one line, to a file.
+pub fn numbered_to(file: i32, word: &[u8], n: u64) {
+    io::write_all(file, word);
+    io::write_all(file, b" ");
+    io::print_decimal(file, n);
+    io::write_all(file, b"\n");
+}
+
 // A line of text.
 pub fn line(words: &[u8]) {
-    io::write_all(STDOUT_FILENO, words);
-    io::write_all(STDOUT_FILENO, b"\n");
+    line_to(STDOUT_FILENO, words);
 }
 
 // A word and its number, on one line.
 pub fn numbered(word: &[u8], n: u64) {
-    io::write_all(STDOUT_FILENO, word);
-    io::write_all(STDOUT_FILENO, b" ");
-    io::print_decimal(STDOUT_FILENO, n);
-    io::write_all(STDOUT_FILENO, b"\n");
+    numbered_to(STDOUT_FILENO, word, n);
 }
 
 // The answer to a call that was refused.

@@ -19,6 +19,8 @@ use costs::saves_paid;
 use costs::v_at;
 use costs::verify_paid;
 use job::Job;
+use job::totals::weight_to;
+use job::totals::wide;
 use refusals::OUT_OF_TURN;
 use refusals::OVER_TOTAL;
 use refusals::OVER_WEIGHT;
@@ -28,8 +30,6 @@ use state::Sums;
 use state::positions::last_copy;
 use state::positions::mark_at;
 use state::positions::weight_at;
-use state::positions::weight_to;
-use state::positions::wide;
 use state::rules::over_total;
 
 // The run stands at a copy, and the weights after it move from kept to redone.

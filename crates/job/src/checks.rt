@@ -20,7 +20,7 @@ use refusals::BAD_VALUE;
 
 const COST_LIMIT: u32 = 1 << 30;
 
-const TOTAL_LIMIT: u64 = 1 << 30;
+pub const TOTAL_LIMIT: u64 = 1 << 30;
 
 // Check 3, of a sheet's or a run's task count.
 pub fn bad_count(n: usize) -> bool

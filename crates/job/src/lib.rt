@@ -4,6 +4,7 @@ ghost use Rattle.job.specs.Job.{zeroJob};
 
 pub mod checks;
 pub mod stretch;
+pub mod totals;
 
 // The most tasks. A position is a number from 0, the start, to this.
 pub const TASK_LIMIT: usize = 64;

@@ -2,12 +2,14 @@
 ghost use mathlib.Core.Path.{_≡_};
 ghost use Rattle.growth.specs.Growth;
 ghost use Rattle.sheet.specs.Lookup.{foundOf};
+ghost use Rattle.joining.specs.Join.{Joins};
 ghost use Rattle.pricing.specs.Price.{priceOf};
 ghost use Rattle.planning.specs.Promise.{Plans};
 ghost use Rattle.following.specs.Start.{startOf};
 ghost use Rattle.logs.specs.Log.{logOf};
 use following::Started;
 use following::Stepped;
+use joining::Joined;
 use refusals::Answer;
 use sheet::Found;
 use state::Run;
@@ -31,6 +33,13 @@ pub extern "C" fn pulvanor_lookup(sheet: &[u8], kind: u64) -> Found
     ensures { λ r. ⌜ r ≡ foundOf (now (sheet .entry)) kind ⌝ }
 {
     sheet::lookup::find(sheet, kind)
+}
+
+#[no_mangle]
+pub extern "C" fn pulvanor_join(first: &[u8], second: &[u8], buffer: &mut [u8]) -> Joined
+    ensures { λ r. ⌜ Joins (now (first .entry)) (now (second .entry)) (now (buffer .entry)) (now (buffer .exit)) r ⌝ }
+{
+    joining::join(first, second, buffer)
 }
 
 #[no_mangle]

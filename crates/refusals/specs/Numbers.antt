@@ -1,4 +1,4 @@
--- The numbers of document 01's refusals. The condition of each stands in the crate that tests it.
+-- The numbers of document 01's refusals and of the requests'. The condition of each stands in the crate that tests it.
 use Prim.Native.Nat.{ℕ}
 
 -- what an accepted call has in a refusal's place
@@ -58,3 +58,6 @@ overWeight = 24
 
 abbrev pub overTotal : ℕ
 overTotal = 25
+
+abbrev pub otherPlatform : ℕ
+otherPlatform = 26

@@ -1,4 +1,4 @@
-// The numbers of document 01's refusals, the number of a call that is accepted, and the answer that has a number and a time.
+// The numbers of document 01's refusals and of the requests', the number of a call that is accepted, and the answer that has a number and a time.
 // The conditions stand in the crates that test them.
 ghost use mathlib.Core.Path.{_≡_};
 ghost use Rattle.refusals.specs.Answers.{refused, accepted};
@@ -43,6 +43,9 @@ pub const OUT_OF_TURN: u64 = 23;
 pub const OVER_WEIGHT: u64 = 24;
 
 pub const OVER_TOTAL: u64 = 25;
+
+// Of two sheets.
+pub const OTHER_PLATFORM: u64 = 26;
 
 // The answer to a call: number 0 and the time, or the number of its refusal and time 0.
 #[repr(C)]

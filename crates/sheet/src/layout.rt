@@ -22,16 +22,16 @@ const SHORTEST_SHEET: usize = 20;
 
 const LEAST_OFFSET: usize = 20;
 
-const FORM: u64 = 1;
+pub const FORM: u64 = 1;
 
-const SECTIONS: u64 = 2;
+pub const SECTIONS: u64 = 2;
 
 // Two pairs of offset and length, each of two fields.
-const PAIRS_START: usize = 4;
+pub const PAIRS_START: usize = 4;
 
 const PAIR_LENGTH: usize = 8;
 
-const PLATFORM_LENGTH: usize = 29;
+pub const PLATFORM_LENGTH: usize = 29;
 
 fn bad_length(s: &[u8]) -> bool
     ensures { λ r. ⌜ r ≡ badLength (now (s .entry)) ⌝ }

@@ -43,7 +43,8 @@ fn platform_of(part: &[u8]) -> Platform
     }
 }
 
-fn weights_of(part: &[u8], n: usize) -> [u32; TASK_LIMIT]
+// The weights of a weights section of n tasks, and 0 past task n.
+pub fn weights_of(part: &[u8], n: usize) -> [u32; TASK_LIMIT]
     requires { ⌜ n ≤ taskLimit ⌝ }
     ensures { λ r. ⌜ r ≡ weightsOf (now (part .entry)) n ⌝ }
 {

@@ -2,17 +2,11 @@
 ghost use mathlib.Core.Path.{_≡_};
 ghost use Prim.Native.Nat.{_≤_, _<_, _^_};
 ghost use Rattle.chain.specs.Time.{last};
-ghost use Rattle.job.specs.Job.{taskLimit, weightAt, total};
+ghost use Rattle.job.specs.Job.{taskLimit, weightAt};
 ghost use Rattle.state.specs.State.{marksIn};
 use crate::Run;
 use job::Job;
-use job::TASK_LIMIT;
-
-pub fn wide(x: u32) -> u64
-    ensures { λ r. ⌜ (r ≡ x) × (r < 2 ^ 32) ⌝ }
-{
-    x as u64
-}
+use job::totals::wide;
 
 // The weight of task j + 1.
 pub fn weight_at(job: Job, j: usize) -> u64
@@ -20,20 +14,6 @@ pub fn weight_at(job: Job, j: usize) -> u64
     ensures { λ r. ⌜ (r ≡ weightAt (job .weights) j) × (r < 2 ^ 32) ⌝ }
 {
     wide(job.weights[j])
-}
-
-// The weight of the first n tasks.
-pub fn weight_to(weights: [u32; TASK_LIMIT], n: usize) -> u64
-    requires { ⌜ n ≤ taskLimit ⌝ }
-    ensures { λ r. ⌜ r ≡ total weights n ⌝ }
-{
-    let mut sum: u64 = 0;
-    let mut j: usize = 0;
-    while j < n {
-        sum += wide(weights[j]);
-        j += 1;
-    }
-    sum
 }
 
 // The mark of position p; the start has none, which is 0.

@@ -7,9 +7,9 @@ ghost use Rattle.state.specs.State.{marksIn, marksRead, valueConditions,
 use crate::Run;
 use crate::Sums;
 use crate::positions::mark_at;
-use crate::positions::weight_to;
 use job::checks::bad_count;
 use job::checks::job_refusal;
+use job::totals::weight_to;
 use marks::marks_refusal;
 use refusals::BAD_COUNT;
 

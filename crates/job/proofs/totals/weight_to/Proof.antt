@@ -1,13 +1,13 @@
--- `state::positions::weight_to` meets its contract.
+-- `job::totals::weight_to` meets its contract.
 -- The loop's invariant: the sum is the total of the weights passed, each below 2^32, so that it cannot wrap. The measure is what is left of the tasks. Assumes
 -- nothing.
 use Prim.Native.Nat.{_-_, _*_, _≤_, _^_}
 use mathlib.Core.Path.{_≡_, refl}
 use native.Mathlib.Omega.{arith}
 use Rattle.job.specs.Job.{total}
 use Rattle.job.proofs.Weights.{total-more}
-use Rattle.state.proofs.positions.weight_to.Statement.{statement}
-use Rattle.state.proofs.positions.weight_to.Tie as tie
+use Rattle.job.proofs.totals.weight_to.Statement.{statement}
+use Rattle.job.proofs.totals.weight_to.Tie as tie
 use borrow.Author.Needs.{needs}
 
 abbrev Inv-loop : tie.InvT-loop
@@ -51,7 +51,7 @@ returns : tie.Need-returns Inv-loop μ-loop
 returns c =
     let loop = c .before .loop in
     let args = c .before .before .args in
-    let e : loop .j ≡ args .n = omega arith in rw (← e) (loop .inv .1)
+    let e : loop .j ≡ args .n = omega arith in (rw (← e) (loop .inv .1), omega (arith, loop .inv .2))
 
 pub weight-to-spec : {M : Type 1} → statement M
 weight-to-spec =

@@ -1,0 +1,87 @@
+// Joins the job sheets in the files that the two arguments name, and writes the joined sheet to standard output.
+// The number of a refusal, and what cannot be read, have their line on standard error.
+ghost use mathlib.Core.Path.{_≡_};
+ghost use Rattle.io.specs.Counts.{Counts};
+use console::Taken;
+use libc::STDERR_FILENO;
+use libc::STDOUT_FILENO;
+use sheet::LONGEST_SHEET;
+use sheet::SHEET_ROOM;
+
+// What is wrong, and with which sheet.
+fn complain(words: &[u8], which: &[u8]) {
+    io::write_all(STDERR_FILENO, words);
+    console::line_to(STDERR_FILENO, which);
+}
+
+// The joined sheet.
+fn show(first: &[u8], second: &[u8]) {
+    let mut sheet = [0u8; LONGEST_SHEET];
+    let joined = joining::join(first, second, &mut sheet);
+    if joined.number != 0 {
+        console::numbered_to(STDERR_FILENO, b"refused", joined.number);
+        return;
+    }
+    let n = joined.length;
+    io::write_all(STDOUT_FILENO, &sheet[..n]);
+}
+
+// The sheet in the file of this name.
+fn read_file(path: &[u8], sheet: &mut [u8]) -> Taken
+    ensures { λ r. ⌜ Counts (r .n) (now (sheet .exit)) ⌝ }
+{
+    let file = os::open_read(path);
+    if file < 0 {
+        return Taken { n: 0, failed: true };
+    }
+    let taken = console::read_all(file, sheet);
+    libc::close(file);
+    taken
+}
+
+// The sheet in the file that argument i names; one that cannot be read has its line.
+fn read_sheet(i: usize, which: &[u8], sheet: &mut [u8]) -> Taken
+    ensures { λ r. ⌜ Counts (r .n) (now (sheet .exit)) ⌝ }
+{
+    let mut path = io::buffer();
+    let n = os::arg(i, &mut path);
+    if os::errno() != 0 {
+        complain(b"argument too long: ", which);
+        return Taken { n: 0, failed: true };
+    }
+    let taken = read_file(&path[..n], sheet);
+    if taken.failed {
+        complain(b"cannot read: ", which);
+    }
+    taken
+}
+
+// The first sheet with the one that the second argument names.
+fn join_second(first: &[u8]) {
+    let mut second = [0u8; SHEET_ROOM];
+    let taken = read_sheet(2, b"second sheet", &mut second);
+    if taken.failed {
+        return;
+    }
+    let n = taken.n;
+    show(first, &second[..n]);
+}
+
+fn main() {
+    let count = os::arg_count();
+    if count < 2 {
+        complain(b"missing argument: ", b"first sheet");
+        return;
+    }
+    if count < 3 {
+        complain(b"missing argument: ", b"second sheet");
+        return;
+    }
+    let mut first = [0u8; SHEET_ROOM];
+    let taken = read_sheet(1, b"first sheet", &mut first);
+    if taken.failed {
+        return;
+    }
+    let n = taken.n;
+    join_second(&first[..n]);
+}

@@ -1,0 +1,153 @@
+-- The values of two accepted sheets as one chain: each weight where it belongs, their total, and that checks 7 and 8 pass. Assumes nothing.
+use Prim.Native.Nat.{ℕ, zero, suc, _+_, _-_, _≤_, _<_}
+use mathlib.Core.Path.{_≡_, refl, sym, _∙_, ap}
+use mathlib.Core.Bool.{Bool, true, false, not, _||_}
+use mathlib.Core.List.{List, _++_}
+use native.Mathlib.Decide.{decLt}
+use native.Mathlib.Numerals.{add-one}
+use native.Mathlib.Omega.{arith}
+use borrow.Author.Tests.{le-ltb, eqb-true}
+use lib.Dec.{ltb, eqb}
+use lib.ListN.{length, take, length-append, List·getD-append}
+use lib.Seq.{length-take-le, getD-take, getD-append-add}
+use Rattle.units.specs.Limits.{costLimit}
+use Rattle.lists.specs.Lists.{some, tabulate}
+use Rattle.lists.proofs.Lists.{or-fails, and-holds, some-fails, some-none, getD-tabulate}
+use Rattle.refusals.specs.Refusals.{first}
+use Rattle.job.specs.Job.{taskLimit, weightAt, total, isAllowed}
+use Rattle.job.specs.Checks.{badCost, badWeight, badValue, badTask, jobConditions}
+use Rattle.job.specs.declared.Platform.{Platform}
+use Rattle.job.specs.declared.Job.{Job}
+use Rattle.job.proofs.Ranges.{ValuesPassed, value-passes}
+use Rattle.job.proofs.Weights.{total-more}
+use Rattle.joining.specs.Join.{taskWeights, joinedWeights, samePlatform}
+use Rattle.joining.proofs.Forms.{formJob}
+
+-- totals of weights that are the same
+total-same : (v w : List ℕ) (n : ℕ) → ((j : ℕ) → j < n → weightAt v j ≡ weightAt w j) → total v n ≡ total w n
+unfolding total
+total-same v w zero e = refl
+total-same v w (suc n) e = rw (total-same v w n (λ j h. e j (omega arith)), e n (omega arith)) refl
+
+-- a platform is its seven fields
+platform-made : {a b c d e f g a' b' c' d' e' f' g' : ℕ} → a ≡ a' → b ≡ b' → c ≡ c' → d ≡ d' → e ≡ e' → f ≡ f' → g ≡ g'
+    → _≡_ {A = Platform} (record { failstop = a; silent = b; cd = c; cm = d; v = e; rd = f; rm = g })
+    (record { failstop = a'; silent = b'; cd = c'; cm = d'; v = e'; rd = f'; rm = g' })
+platform-made h i j k l m n = rw (h, i, j, k, l, m, n) refl
+
+-- seven fields that do not differ are one platform
+pub same-platform : (p q : Platform) → samePlatform p q ≡ true → p ≡ q
+unfolding samePlatform
+same-platform p q e =
+    let failstop = and-holds (eqb (p .failstop) (q .failstop)) _ e in
+    let silent = and-holds (eqb (p .silent) (q .silent)) _ (failstop .1) in
+    let cd = and-holds (eqb (p .cd) (q .cd)) _ (silent .1) in
+    let cm = and-holds (eqb (p .cm) (q .cm)) _ (cd .1) in
+    let v = and-holds (eqb (p .v) (q .v)) _ (cm .1) in
+    let rd = and-holds (eqb (p .rd) (q .rd)) _ (v .1) in
+    platform-made (eqb-true _ _ (failstop .0)) (eqb-true _ _ (silent .0)) (eqb-true _ _ (cd .0)) (eqb-true _ _ (cm .0)) (eqb-true _ _ (v .0))
+    (eqb-true _ _ (rd .0)) (eqb-true _ _ (rd .1))
+
+-- two jobs whose weights are there
+module _ (a b : Job) (held-a : a .tasks ≤ length (a .weights)) (held-b : b .tasks ≤ length (b .weights)) where
+  first-length : length (taskWeights a) ≡ a .tasks
+  first-length = length-take-le (a .tasks) (a .weights) held-a
+
+  pub joined-length : length (joinedWeights a b) ≡ a .tasks + b .tasks
+  joined-length = omega (arith, length-append (taskWeights a) (taskWeights b), first-length, length-take-le (b .tasks) (b .weights) held-b)
+
+  -- the first sheet's weights
+  weight-first : (j : ℕ) → j < a .tasks → weightAt (joinedWeights a b) j ≡ weightAt (a .weights) j
+  weight-first j h = List·getD-append (taskWeights a) (taskWeights b) 0 j (omega (arith, first-length)) ∙ getD-take (a .tasks) (a .weights) j 0 h
+
+  -- then the second's
+  weight-second : (j : ℕ) → j < b .tasks → weightAt (joinedWeights a b) (a .tasks + j) ≡ weightAt (b .weights) j
+  weight-second j h =
+      let e : length (taskWeights a) + j ≡ a .tasks + j = omega (arith, first-length) in
+      rw e at (getD-append-add (taskWeights a) (taskWeights b) j 0) ∙ getD-take (b .tasks) (b .weights) j 0 h
+
+  -- what holds of each weight of both holds of each joined weight
+  each : (P : ℕ → Type 0) → ((j : ℕ) → j < a .tasks → P (weightAt (a .weights) j)) → ((j : ℕ) → j < b .tasks → P (weightAt (b .weights) j))
+      → (j : ℕ) → j < a .tasks + b .tasks → P (weightAt (joinedWeights a b) j)
+  each P of-a of-b j h = go (decLt j (a .tasks))
+    where
+      go : Dec (j < a .tasks) → P (weightAt (joinedWeights a b) j)
+      go (yes l) = rw (weight-first j l) (of-a j l)
+      go (no l) =
+          let e : a .tasks + (j - a .tasks) ≡ j = omega arith in
+          rw (← e, weight-second (j - a .tasks) (omega arith)) (of-b (j - a .tasks) (omega arith))
+
+  total-split : (n : ℕ) → n ≤ b .tasks → total (joinedWeights a b) (a .tasks + n) ≡ total (a .weights) (a .tasks) + total (b .weights) n
+  unfolding total
+  total-split zero h =
+      let e : a .tasks + 0 ≡ a .tasks = omega arith in
+      rw e (omega (arith, total-same (joinedWeights a b) (a .weights) (a .tasks) weight-first))
+  total-split (suc n) h =
+      let e : a .tasks + suc n ≡ a .tasks + n + 1 = omega arith in
+      rw (e, total-more (joinedWeights a b) (a .tasks + n)) (omega (arith, total-split n (omega arith), weight-second n (omega arith)))
+
+-- what checks 7 and 8 leave, weight by weight
+module _ (job : Job) (passed : ValuesPassed job) where
+  costs-right : badCost (job .platform) ≡ false
+  unfolding badValue
+  costs-right = or-fails (badCost (job .platform)) _ (passed .value) .0
+
+  weight-right : (j : ℕ) → j < job .tasks → badWeight (job .weights) j ≡ false
+  unfolding badValue
+  weight-right = some-fails (job .tasks) (badWeight (job .weights)) (or-fails _ _ (or-fails (badCost (job .platform)) _ (passed .value) .1) .0)
+
+  task-right : (j : ℕ) → j < job .tasks → not (isAllowed (job .platform) (weightAt (job .weights) j)) ≡ false
+  unfolding badTask
+  task-right = some-fails (job .tasks) _ (passed .task)
+
+-- both pass checks 7 and 8 and share their platform, and their total is in range: so does the joined chain
+pub record Joinable (a b : Job) : Type 0 where
+  pub held-first : a .tasks ≤ length (a .weights)
+  pub held-second : b .tasks ≤ length (b .weights)
+  pub passed-first : ValuesPassed a
+  pub passed-second : ValuesPassed b
+  pub one-platform : a .platform ≡ b .platform
+  pub few-tasks : a .tasks + b .tasks ≤ taskLimit
+  pub sum : total (a .weights) (a .tasks) + total (b .weights) (b .tasks) ≤ costLimit
+
+module _ (a b : Job) (joinable : Joinable a b) where
+  abbrev whole : Job
+  whole = formJob (a .platform) (joinedWeights a b)
+
+  whole-tasks : whole .tasks ≡ a .tasks + b .tasks
+  whole-tasks = joined-length a b (joinable .held-first) (joinable .held-second)
+
+  whole-weight : (j : ℕ) → j < a .tasks + b .tasks → weightAt (whole .weights) j ≡ weightAt (joinedWeights a b) j
+  whole-weight j h = getD-tabulate taskLimit (weightAt (joinedWeights a b)) j (omega (arith, joinable .few-tasks))
+
+  whole-each : (P : ℕ → Type 0) → ((j : ℕ) → j < a .tasks → P (weightAt (a .weights) j)) → ((j : ℕ) → j < b .tasks → P (weightAt (b .weights) j))
+      → (j : ℕ) → j < a .tasks + b .tasks → P (weightAt (whole .weights) j)
+  whole-each P of-a of-b j h = rw (whole-weight j h) (each a b (joinable .held-first) (joinable .held-second) P of-a of-b j h)
+
+  weights-right : some (a .tasks + b .tasks) (badWeight (whole .weights)) ≡ false
+  unfolding badWeight
+  weights-right =
+      some-none (a .tasks + b .tasks) (badWeight (whole .weights))
+      (whole-each (λ x. (eqb x 0 || ltb costLimit x) ≡ false) (weight-right a (joinable .passed-first)) (weight-right b (joinable .passed-second)))
+
+  whole-total : total (whole .weights) (a .tasks + b .tasks) ≡ total (a .weights) (a .tasks) + total (b .weights) (b .tasks)
+  whole-total =
+      total-same (whole .weights) (joinedWeights a b) (a .tasks + b .tasks) whole-weight
+      ∙ total-split a b (joinable .held-first) (joinable .held-second) (b .tasks) (omega arith)
+
+  whole-value : badValue whole ≡ false
+  whole-value =
+      value-passes whole (costs-right a (joinable .passed-first))
+      (rw (whole-tasks, weights-right) (le-ltb costLimit (total (whole .weights) (a .tasks + b .tasks)) (omega (arith, whole-total, joinable .sum))))
+
+  whole-task : badTask whole ≡ false
+  unfolding badTask
+  whole-task =
+      rw whole-tasks
+      (some-none (a .tasks + b .tasks) _
+      (whole-each (λ x. not (isAllowed (a .platform) x) ≡ false) (task-right a (joinable .passed-first))
+      (rw (joinable .one-platform) (task-right b (joinable .passed-second)))))
+
+  pub whole-passes : first (jobConditions whole) ≡ 0
+  unfolding first
+  whole-passes = rw (whole-value, whole-task) refl

@@ -1,0 +1,89 @@
+-- `joining::write::put_header` meets its contract. Four bytes, then the two pairs as fields. Assumes nothing.
+use mathlib.Core.Path.{refl}
+use native.Mathlib.Omega.{arith}
+use lib.ListN.{length-set}
+use lib.Seq.{length-sets}
+use borrow.Author.Needs.{needs}
+use Rattle.joining.proofs.write.put_header.Statement.{statement}
+use Rattle.joining.proofs.write.put_header.Tie as tie
+
+cast-buffer : tie.Need-cast-buffer
+cast-buffer c = search needs
+
+slice-write-buffer : tie.Need-slice-write-buffer
+slice-write-buffer c = search needs
+
+cast-buffer-2 : tie.Need-cast-buffer-2
+cast-buffer-2 c = search needs
+
+slice-write-buffer-2 : tie.Need-slice-write-buffer-2
+slice-write-buffer-2 c =
+    let pre = c .before .pre in
+    rw length-set (omega (arith, pre .room))
+
+cast-buffer-3 : tie.Need-cast-buffer-3
+cast-buffer-3 c = search needs
+
+slice-write-buffer-3 : tie.Need-slice-write-buffer-3
+slice-write-buffer-3 c =
+    let pre = c .before .pre in
+    rw (length-set, length-set) (omega (arith, pre .room))
+
+slice-write-buffer-4 : tie.Need-slice-write-buffer-4
+slice-write-buffer-4 c =
+    let pre = c .before .pre in
+    rw (length-set, length-set, length-set) (omega (arith, pre .room))
+
+cast-t9 : tie.Need-cast-t9
+cast-t9 c = search needs
+
+cast-t10 : tie.Need-cast-t10
+cast-t10 c = search needs
+
+cast-t11 : tie.Need-cast-t11
+cast-t11 c = search needs
+
+mul-t12 : tie.Need-mul-t12
+mul-t12 c = search needs
+
+add-t13 : tie.Need-add-t13
+add-t13 c = search needs
+
+cast-t14 : tie.Need-cast-t14
+cast-t14 c = search needs
+
+slice-aggregate-put-fields : tie.Need-slice-aggregate-put-fields
+slice-aggregate-put-fields c = search needs
+
+put-fields-requires : tie.Need-put-fields-requires
+put-fields-requires c κs = search needs
+
+same-length : tie.Need-same-length
+same-length c =
+    let put-fields = c .before .before .put-fields in
+    rw (put-fields .ensures, length-sets, length-set, length-set, length-set, length-set) refl
+
+returns : tie.Need-returns
+returns c = search needs
+
+pub put-header-spec : {M : Type 1} → statement M
+put-header-spec =
+    tie.close
+    (tie.spec
+    cast-buffer
+    slice-write-buffer
+    cast-buffer-2
+    slice-write-buffer-2
+    cast-buffer-3
+    slice-write-buffer-3
+    slice-write-buffer-4
+    cast-t9
+    cast-t10
+    cast-t11
+    mul-t12
+    add-t13
+    cast-t14
+    slice-aggregate-put-fields
+    put-fields-requires
+    same-length
+    returns)

@@ -1,0 +1,48 @@
+-- What the functions of this crate ask of their callers, which are in it.
+use Prim.Native.Nat.{ℕ, _+_, _*_, _≤_}
+use mathlib.Core.Path.{_≡_}
+use mathlib.Core.List.{List}
+use lib.ListN.{length}
+use Rattle.refusals.specs.Numbers
+use Rattle.job.specs.Job.{taskLimit}
+use Rattle.job.specs.declared.Job.{Job}
+use Rattle.sheet.specs.Bytes.{fieldLength}
+use Rattle.sheet.specs.Layout.{weightsLength}
+use Rattle.sheet.specs.Reading.{sheetRefusal, sheetOf}
+use Rattle.sheet.specs.declared.Sheet.{Sheet}
+use Rattle.sheet.specs.declared.Reading.{Reading}
+use Rattle.sheet.specs.declared.Reading.the-variants.{Accepted, Refused}
+use Rattle.joining.specs.Form.{platformStart, weightsStart}
+
+-- n of the values are there, and the buffer has room for them from `at` on
+pub record ReadyForFields (buffer : List ℕ) (at : ℕ) (values : List ℕ) (n : ℕ) : Type 0 where
+  pub held : n ≤ length values
+  pub room : at + fieldLength * n ≤ length buffer
+
+-- a task count that a byte holds, and room for the header before the platform
+pub record ReadyForHeader (n : ℕ) (buffer : List ℕ) : Type 0 where
+  pub few : n ≤ taskLimit
+  pub room : platformStart ≤ length buffer
+
+-- two jobs that passed check 3, with a weight for each task
+pub record Pair (a b : Job) : Type 0 where
+  pub few-first : a .tasks ≤ taskLimit
+  pub few-second : b .tasks ≤ taskLimit
+  pub held-first : a .tasks ≤ length (a .weights)
+  pub held-second : b .tasks ≤ length (b .weights)
+
+-- and a buffer that holds their sheet
+pub record ReadyForSheet (a b : Job) (buffer : List ℕ) : Type 0 where
+  pub pair : Pair a b
+  pub few : a .tasks + b .tasks ≤ taskLimit
+  pub room : weightsStart + weightsLength (a .tasks + b .tasks) ≤ length buffer
+
+-- an accepted sheet, and the values that reading it gave
+pub record ReadyForWeights (s : List ℕ) (values : Sheet) : Type 0 where
+  pub accepted : sheetRefusal s ≡ Numbers.accepted
+  pub values-read : values ≡ sheetOf s
+
+-- the number that an answer of a reading stands for
+unfoldable pub numberIn : Reading → ℕ
+numberIn (Accepted v) = Numbers.accepted
+numberIn (Refused r) = r

@@ -1,0 +1,150 @@
+// Two sheets joined to one: the first sheet's weights, then the second's, with one platform section, written to a buffer that the caller lends.
+// Nothing is said of the least time of the whole from those of the parts: a recovery at the seam has a cost.
+ghost use mathlib.Core.Path.{_≡_};
+ghost use lib.ListN.{length};
+ghost use Rattle.refusals.specs.Refusals.{first};
+ghost use Rattle.sheet.specs.Reading.{jobOf};
+ghost use Rattle.joining.specs.Join.{samePlatform, pairConditions, joinedSheet, Writes, Joins};
+ghost use Rattle.joining.specs.Working.Ready.{Pair, ReadyForWeights, numberIn};
+use job::Job;
+use job::Platform;
+use job::TASK_LIMIT;
+use job::checks::TOTAL_LIMIT;
+use job::totals::weight_to;
+use refusals::ACCEPTED;
+use refusals::BAD_COUNT;
+use refusals::BAD_VALUE;
+use refusals::OTHER_PLATFORM;
+use refusals::SHORT_BUFFER;
+use sheet::Reading;
+use sheet::Sheet;
+use sheet::bytes::FIELD_LENGTH;
+use sheet::read::read;
+use sheet::read::weights_of;
+
+mod write;
+
+use write::put_sheet;
+use write::sheet_length;
+
+// The answer of a join: 0 and how many bytes of the buffer are the sheet, or the number of its refusal and 0.
+#[repr(C)]
+pub struct Joined {
+    pub number: u64,
+    pub length: usize,
+}
+
+// Whether the seven platform fields are the same.
+fn is_same(p: Platform, q: Platform) -> bool
+    ensures { λ r. ⌜ r ≡ samePlatform p q ⌝ }
+{
+    if p.failstop != q.failstop {
+        return false;
+    }
+    if p.silent != q.silent {
+        return false;
+    }
+    if p.cd != q.cd {
+        return false;
+    }
+    if p.cm != q.cm {
+        return false;
+    }
+    if p.v != q.v {
+        return false;
+    }
+    if p.rd != q.rd {
+        return false;
+    }
+    p.rm == q.rm
+}
+
+// The first of 26, 3, 7 and 11 that holds, or 0. The total is taken in 64 bits, which no weights can wrap.
+fn pair_refusal(a: Job, b: Job, room: usize) -> u64
+    requires { ⌜ Pair a b ⌝ }
+    ensures { λ r. ⌜ r ≡ first (pairConditions a b room) ⌝ }
+{
+    let same = is_same(a.platform, b.platform);
+    let n = a.tasks + b.tasks;
+    let first = a.weights;
+    let second = b.weights;
+    let total = weight_to(first, a.tasks) + weight_to(second, b.tasks);
+    let length = sheet_length(n);
+    if !same {
+        return OTHER_PLATFORM;
+    }
+    if TASK_LIMIT < n {
+        return BAD_COUNT;
+    }
+    if TOTAL_LIMIT < total {
+        return BAD_VALUE;
+    }
+    if room < length {
+        return SHORT_BUFFER;
+    }
+    0
+}
+
+// The sheets of two jobs joined. Every refusal is known before a byte is written.
+fn join_jobs(a: Job, b: Job, buffer: &mut [u8]) -> Joined
+    requires { ⌜ Pair a b ⌝ }
+    ensures { λ r. ⌜ Writes (first (pairConditions a b (length (now (buffer .entry))))) (joinedSheet a b) (now (buffer .entry)) (now (buffer .exit)) r ⌝ }
+{
+    let number = pair_refusal(a, b, buffer.len());
+    if number != 0 {
+        return Joined { number, length: 0 };
+    }
+    put_sheet(buffer, a, b);
+    Joined {
+        number: ACCEPTED,
+        length: sheet_length(a.tasks + b.tasks),
+    }
+}
+
+// The values of an accepted sheet with their weights, which are read from their part of it.
+fn job_of(s: &[u8], values: Sheet) -> Job
+    requires { ⌜ ReadyForWeights (now s) values ⌝ }
+    ensures { λ r. ⌜ r ≡ jobOf (now (s .entry)) ⌝ }
+{
+    let start = values.weights;
+    let n = values.tasks;
+    let end = start + 1 + FIELD_LENGTH * n;
+    let weights = weights_of(&s[start..end], n);
+    let platform = values.platform;
+    Job {
+        tasks: n,
+        platform,
+        weights,
+    }
+}
+
+// The number of a reading: 0 if it is accepted.
+fn number_of(reading: Reading) -> u64
+    ensures { λ r. ⌜ r ≡ numberIn reading ⌝ }
+{
+    match reading {
+        Reading::Accepted(_) => ACCEPTED,
+        Reading::Refused(number) => number,
+    }
+}
+
+// The joined sheet of the first and the second, or the first of checks 1 to 8 of the first, 1 to 8 of the second, 26, 3, 7 and 11 that holds.
+pub fn join(first: &[u8], second: &[u8], buffer: &mut [u8]) -> Joined
+    ensures { λ r. ⌜ Joins (now (first .entry)) (now (second .entry)) (now (buffer .entry)) (now (buffer .exit)) r ⌝ }
+{
+    let reading = read(first);
+    let Reading::Accepted(a) = reading else {
+        return Joined {
+            number: number_of(reading),
+            length: 0,
+        };
+    };
+    let other = read(second);
+    let Reading::Accepted(b) = other else {
+        return Joined {
+            number: number_of(other),
+            length: 0,
+        };
+    };
+    join_jobs(job_of(first, a), job_of(second, b), buffer)
+}

@@ -1,0 +1,105 @@
+// Writing a sheet in form 1 to a lent buffer: a run of stores from each place on.
+ghost use mathlib.Core.Path.{_≡_};
+ghost use mathlib.Core.List.{_++_};
+ghost use Prim.Native.Nat.{_+_, _*_, _≤_};
+ghost use lib.ListN.{length, take, drop};
+ghost use lib.Seq.{sets};
+ghost use Rattle.job.specs.Job.{taskLimit};
+ghost use Rattle.sheet.specs.Bytes.{fieldLength};
+ghost use Rattle.sheet.specs.Layout.{platformLength, weightsLength};
+ghost use Rattle.joining.specs.Form.{fieldBytes, fields, platformStart, weightsStart, header, platformSection, weightsSection};
+ghost use Rattle.joining.specs.Join.{joinedWeights, joinedSheet};
+ghost use Rattle.joining.specs.Working.Ready.{ReadyForFields, ReadyForHeader, ReadyForSheet};
+use job::Job;
+use job::Platform;
+use sheet::PLATFORM_KIND;
+use sheet::WEIGHTS_KIND;
+use sheet::bytes::FIELD_LENGTH;
+use sheet::layout::FORM;
+use sheet::layout::PAIRS_START;
+use sheet::layout::PLATFORM_LENGTH;
+use sheet::layout::SECTIONS;
+
+const PLATFORM_START: usize = 20;
+
+const WEIGHTS_START: usize = 49;
+
+// One field, from byte `at` on.
+fn put_field(buffer: &mut [u8], at: usize, x: u32)
+    requires { ⌜ at + fieldLength ≤ length (now buffer) ⌝ }
+    ensures { λ _. ⌜ now (buffer .exit) ≡ sets (now (buffer .entry)) at (fieldBytes x) ⌝ }
+{
+    buffer[at] = (x % 256) as u8;
+    buffer[at + 1] = (x / 256 % 256) as u8;
+    buffer[at + 2] = (x / 65_536 % 256) as u8;
+    buffer[at + 3] = (x / 16_777_216) as u8;
+}
+
+// The first n of these values as fields, one after the other, from byte `at` on.
+fn put_fields(buffer: &mut [u8], at: usize, values: &[u32], n: usize)
+    requires { ⌜ ReadyForFields (now buffer) at (now values) n ⌝ }
+    ensures { λ _. ⌜ now (buffer .exit) ≡ sets (now (buffer .entry)) at (fields (take n (now (values .entry)))) ⌝ }
+{
+    let mut j: usize = 0;
+    while j < n {
+        put_field(buffer, at + FIELD_LENGTH * j, values[j]);
+        j += 1;
+    }
+}
+
+// How long the sheet of n tasks is.
+pub fn sheet_length(n: usize) -> usize
+    requires { ⌜ n ≤ 2 * taskLimit ⌝ }
+    ensures { λ r. ⌜ r ≡ weightsStart + weightsLength n ⌝ }
+{
+    WEIGHTS_START + 1 + FIELD_LENGTH * n
+}
+
+fn put_header(buffer: &mut [u8], n: usize)
+    requires { ⌜ ReadyForHeader n (now buffer) ⌝ }
+    ensures { λ _. ⌜ now (buffer .exit) ≡ sets (now (buffer .entry)) 0 (header n) ⌝ }
+{
+    buffer[0] = FORM as u8;
+    buffer[1] = n as u8;
+    buffer[2] = SECTIONS as u8;
+    buffer[3] = 0;
+    let pairs = [
+        PLATFORM_START as u32,
+        PLATFORM_LENGTH as u32,
+        WEIGHTS_START as u32,
+        (1 + FIELD_LENGTH * n) as u32,
+    ];
+    put_fields(buffer, PAIRS_START, &pairs[..], 4);
+}
+
+fn put_platform(buffer: &mut [u8], p: Platform)
+    requires { ⌜ platformStart + platformLength ≤ length (now buffer) ⌝ }
+    ensures { λ _. ⌜ now (buffer .exit) ≡ sets (now (buffer .entry)) platformStart (platformSection p) ⌝ }
+{
+    buffer[PLATFORM_START] = PLATFORM_KIND as u8;
+    let values = [p.failstop, p.silent, p.cd, p.cm, p.v, p.rd, p.rm];
+    put_fields(buffer, PLATFORM_START + 1, &values[..], 7);
+}
+
+// The first sheet's weights, then the second's.
+fn put_weights(buffer: &mut [u8], a: Job, b: Job)
+    requires { ⌜ ReadyForSheet a b (now buffer) ⌝ }
+    ensures { λ _. ⌜ now (buffer .exit) ≡ sets (now (buffer .entry)) weightsStart (weightsSection (joinedWeights a b)) ⌝ }
+{
+    buffer[WEIGHTS_START] = WEIGHTS_KIND as u8;
+    let first = a.weights;
+    let second = b.weights;
+    let start = WEIGHTS_START + 1;
+    put_fields(buffer, start, &first[..], a.tasks);
+    put_fields(buffer, start + FIELD_LENGTH * a.tasks, &second[..], b.tasks);
+}
+
+// The joined sheet of two jobs, at the front of the buffer, and nothing else.
+pub fn put_sheet(buffer: &mut [u8], a: Job, b: Job)
+    requires { ⌜ ReadyForSheet a b (now buffer) ⌝ }
+    ensures { λ _. ⌜ now (buffer .exit) ≡ joinedSheet a b ++ drop (length (joinedSheet a b)) (now (buffer .entry)) ⌝ }
+{
+    put_header(buffer, a.tasks + b.tasks);
+    put_platform(buffer, a.platform);
+    put_weights(buffer, a, b);
+}
