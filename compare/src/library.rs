@@ -7,10 +7,10 @@ use crate::log_writer;
 use crate::types::{Event, Outcome, Run};
 
 #[cfg(feature = "linked")]
-pub use linked::{follow, growth, lookup, mean_growth, plan, price, start, NAME};
+pub use linked::{follow, growth, join, lookup, mean_growth, plan, price, start, NAME};
 
 #[cfg(not(feature = "linked"))]
-pub use crate::reference::calls::{follow, growth, lookup, mean_growth, plan, price, start};
+pub use crate::reference::calls::{follow, growth, join, lookup, mean_growth, plan, price, start};
 
 #[cfg(not(feature = "linked"))]
 pub const NAME: &str = "stand-in (the reference itself, no library is compared)";
@@ -22,7 +22,7 @@ pub fn step(run: &Run, event: Event) -> Outcome {
 
 #[cfg(feature = "linked")]
 mod linked {
-    use crate::types::{Answer, Found, Outcome, Run};
+    use crate::types::{Answer, Found, Joined, Outcome, Run};
 
     pub const NAME: &str = "linked";
 
@@ -31,6 +31,14 @@ mod linked {
         fn pulvanor_growth(y: u64) -> u64;
         fn pulvanor_mean_growth(y: u64) -> u64;
         fn pulvanor_lookup(s: *const u8, s_len: usize, kind: u64) -> Found;
+        fn pulvanor_join(
+            first: *const u8,
+            first_len: usize,
+            second: *const u8,
+            second_len: usize,
+            b: *mut u8,
+            b_len: usize,
+        ) -> Joined;
         fn pulvanor_price(s: *const u8, s_len: usize, m: *const u8, m_len: usize) -> Answer;
         fn pulvanor_plan(s: *const u8, s_len: usize, b: *mut u8, b_len: usize) -> Answer;
         fn pulvanor_start(s: *const u8, s_len: usize, m: *const u8, m_len: usize) -> Outcome;
@@ -50,6 +58,12 @@ mod linked {
     pub fn lookup(sheet: &[u8], kind: u64) -> Found {
         // SAFETY: pointer and length are of one slice, as in the calls below.
         unsafe { pulvanor_lookup(sheet.as_ptr(), sheet.len(), kind) }
+    }
+
+    pub fn join(first: &[u8], second: &[u8], buffer: &mut [u8]) -> Joined {
+        let (start, len) = (buffer.as_mut_ptr(), buffer.len());
+        let (a, b) = (first, second);
+        unsafe { pulvanor_join(a.as_ptr(), a.len(), b.as_ptr(), b.len(), start, len) }
     }
 
     pub fn price(sheet: &[u8], marks: &[u8]) -> Answer {

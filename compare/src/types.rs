@@ -7,7 +7,7 @@ pub const MAX_TASKS: usize = 64;
 /// Bytes of an event's record in a log.
 pub const RECORD_SIZE: usize = 5;
 
-/// A refusal by its number in document 01.
+/// A refusal by its number in document 01 or in a request.
 pub type Refusal = u64;
 
 /// The seven platform fields, in the sheet's order.
@@ -75,6 +75,14 @@ pub struct Found {
     pub number: u64,
     pub start: usize,
     pub size: usize,
+}
+
+/// The answer to a join: 0 or the refusal, and how many bytes were written.
+#[derive(Clone, Copy, Debug, PartialEq, Eq)]
+#[repr(C)]
+pub struct Joined {
+    pub number: u64,
+    pub length: usize,
 }
 
 /// The answer to a price or a plan: 0 or the refusal, and a time.

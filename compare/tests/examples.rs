@@ -1,6 +1,8 @@
-//! The known examples of document 01, against the reference.
+//! The known examples of document 01 and of the requests, against the
+//! reference.
 
 use compare::reference::growth::{g, h};
+use compare::reference::join::join;
 use compare::reference::log;
 use compare::reference::plan;
 use compare::reference::run::{self, History};
@@ -54,6 +56,22 @@ fn plan_of_a() {
     assert_eq!(plan::plan(&sheet_a(), 1), Err(11));
     let job = sheet::read(&sheet_a()).unwrap();
     assert_eq!(plan::by_rows(&job), plan::by_trying(&job));
+}
+
+/// A with itself, and the order of the refusals of two sheets.
+#[test]
+fn joins_of_a() {
+    let (a, joined) = (sheet_a(), sheet_writer::sheet(&PLATFORM_A, &[131072; 4]));
+    assert_eq!(join(&a, &a, joined.len()), Ok(joined.clone()));
+    assert_eq!(plan::plan(&joined, 4), Ok((1449413, vec![2, 2, 2, 3])));
+    assert_eq!(join(&a, &a, joined.len() - 1), Err(11));
+    assert_eq!(join(&a[..19], &[], 0), Err(1));
+    assert_eq!(join(&a, &a[..57], 0), Err(5));
+    let heavy = sheet_writer::sheet(&FREE, &[1 << 24; 64]);
+    assert_eq!(join(&heavy, &a, 0), Err(26));
+    assert_eq!(join(&heavy, &heavy, 0), Err(3));
+    let (large, one) = (sheet_writer::sheet(&FREE, &[1 << 30]), sheet_writer::sheet(&FREE, &[1]));
+    assert_eq!(join(&large, &one, 0), Err(7));
 }
 
 #[test]

@@ -2,7 +2,7 @@
 
 use compare::harness::check;
 use compare::harness::jobs;
-use compare::harness::tally::{Call, Tally, NUMBERS, WANTED};
+use compare::harness::tally::{Call, Joins, Tally, NUMBERS, WANTED};
 use compare::random::Random;
 use compare::reference::plan;
 use compare::reference::setting::MAX_TIME;
@@ -50,11 +50,22 @@ fn a_difference_is_counted() {
 }
 
 #[test]
-fn complete_needs_every_number_often() {
+fn complete_needs_every_number_and_every_edge_often() {
     let mut tally = Tally::default();
     for number in NUMBERS {
         assert!(!tally.complete());
         (0..WANTED).for_each(|_| tally.count(Call::Plan, number));
+    }
+    let edges: [fn(&mut Joins) -> &mut u64; 5] = [
+        |j| &mut j.of_64,
+        |j| &mut j.of_65,
+        |j| &mut j.at_total,
+        |j| &mut j.over_total,
+        |j| &mut j.one_short,
+    ];
+    for edge in edges {
+        assert!(!tally.complete());
+        *edge(&mut tally.joins) = WANTED;
     }
     assert!(tally.complete());
 }

@@ -1,6 +1,8 @@
 //! Compares library and reference on one random sheet and runs of it.
 
 use crate::harness::jobs::{self, Case};
+use crate::harness::joins;
+use crate::harness::lent::Lent;
 use crate::harness::marks;
 use crate::harness::runs;
 use crate::harness::sheets;
@@ -14,9 +16,6 @@ use crate::reference::run::{self, History};
 use crate::reference::setting::{self, MAX_TIME};
 use crate::reference::sheet;
 use crate::types::{Answer, Event, Job, Outcome, Run, MAX_TASKS};
-
-/// Bytes before and after a lent buffer.
-const GUARD: usize = 16;
 
 /// One sheet at hand, with what is drawn and counted.
 struct Check<'a> {
@@ -45,6 +44,7 @@ impl Check<'_> {
         self.tally.sheets += 1;
         self.growths();
         self.lookups();
+        joins::one(self.random, self.tally, &self.sheet, &case.job);
         let job = sheet::read(&self.sheet);
         self.plan(case.job.tasks);
         let Ok(job) = job else {
@@ -127,16 +127,15 @@ impl Check<'_> {
     /// A plan into a buffer with guards; the whole memory is compared.
     fn plan(&mut self, n: usize) {
         let size = self.buffer_size(n);
-        let lent = GUARD..GUARD + size;
-        let mut memory = self.random.bytes(size + 2 * GUARD);
-        let mut library_memory = memory.clone();
-        let library = library::plan(&self.sheet, &mut library_memory[lent.clone()]);
-        let reference = calls::plan(&self.sheet, &mut memory[lent.clone()]);
+        let mut lent = Lent::new(self.random, size);
+        let mut library_lent = lent.clone();
+        let library = library::plan(&self.sheet, library_lent.buffer());
+        let reference = calls::plan(&self.sheet, lent.buffer());
         self.tally.count(Call::Plan, reference.number);
-        let (library, expected) = ((library, &library_memory), (reference, &memory));
+        let (library, expected) = ((library, &library_lent), (reference, &lent));
         self.tally.same("plan", &self.sheet, &size, &library, &expected);
         if reference.number == 0 {
-            self.price_of_plan(&memory[lent], reference.time);
+            self.price_of_plan(lent.buffer(), reference.time);
         }
     }
 

@@ -2,6 +2,8 @@
 
 pub mod check;
 pub mod jobs;
+mod joins;
+mod lent;
 pub mod marks;
 pub mod runs;
 pub mod sheets;

@@ -6,6 +6,7 @@ use std::fmt::Debug;
 #[derive(Clone, Copy)]
 pub enum Call {
     Lookup,
+    Join,
     Price,
     Plan,
     Start,
@@ -13,16 +14,26 @@ pub enum Call {
     Follow,
 }
 
-const CALLS: [&str; 6] = ["lookup", "price", "plan", "start", "step", "follow"];
+const CALLS: [&str; 7] = ["lookup", "join", "price", "plan", "start", "step", "follow"];
 
-/// Every refusal number of document 01.
-pub const NUMBERS: [u64; 18] = [1, 2, 3, 4, 5, 6, 7, 8, 9, 10, 11, 12, 13, 21, 22, 23, 24, 25];
+/// Every refusal number of document 01 and of the requests.
+pub const NUMBERS: [u64; 19] = [1, 2, 3, 4, 5, 6, 7, 8, 9, 10, 11, 12, 13, 21, 22, 23, 24, 25, 26];
 
 /// How often each refusal is to be seen in the default run.
 pub const WANTED: u64 = 100;
 
 /// Differences printed in full.
 const SHOWN: u64 = 5;
+
+/// Joins at an edge.
+#[derive(Default)]
+pub struct Joins {
+    pub of_64: u64,
+    pub of_65: u64,
+    pub at_total: u64,
+    pub over_total: u64,
+    pub one_short: u64,
+}
 
 #[derive(Default)]
 pub struct Tally {
@@ -31,8 +42,9 @@ pub struct Tally {
     pub growths: u64,
     pub at_limit: u64,
     pub over_limit: u64,
+    pub joins: Joins,
     pub differences: u64,
-    counts: [[u64; 26]; 6],
+    counts: [[u64; 27]; 7],
 }
 
 fn hex(bytes: &[u8]) -> String {
@@ -75,9 +87,22 @@ impl Tally {
         }
     }
 
-    /// Whether every number was seen often enough.
+    /// How often each edge of a join was seen.
+    fn join_edges(&self) -> [(&'static str, u64); 5] {
+        let j = &self.joins;
+        [
+            ("joined, 64 tasks", j.of_64),
+            ("refused, 65", j.of_65),
+            ("joined, 2^30", j.at_total),
+            ("refused, 2^30 + 1", j.over_total),
+            ("one byte short", j.one_short),
+        ]
+    }
+
+    /// Whether every number and every edge was seen often enough.
     pub fn complete(&self) -> bool {
-        NUMBERS.iter().all(|&n| self.seen(n) >= WANTED)
+        let edges = self.join_edges();
+        NUMBERS.iter().all(|&n| self.seen(n) >= WANTED) && edges.iter().all(|e| e.1 >= WANTED)
     }
 
     fn print_counts(&self) {
@@ -96,6 +121,8 @@ impl Tally {
     pub fn print(&self) {
         println!("sheets compared   {} ({} pass 1 to 8)", self.sheets, self.read);
         println!("lookups           {}", self.calls(Call::Lookup));
+        println!("joins             {}", self.calls(Call::Join));
+        self.join_edges().iter().for_each(|(name, seen)| println!("{name:<18}{seen}"));
         println!("settings priced   {}", self.calls(Call::Price));
         println!("plans             {}", self.calls(Call::Plan));
         println!("starts            {}", self.calls(Call::Start));

@@ -1,14 +1,15 @@
-//! The library's calls as document 01 has them: the same types, and what a
+//! The library's calls as document 01 and the requests have them: the same types, and what a
 //! refusal hands back.
 
 use crate::reference::growth::{g, h};
+use crate::reference::join as joiner;
 use crate::reference::log;
 use crate::reference::plan as planner;
 use crate::reference::run::{self, History};
 use crate::reference::setting;
 use crate::reference::sheet;
 use crate::types::{
-    Answer, Event, Found, Job, Outcome, Place, Platform, Refusal, Run, Sums, MAX_TASKS,
+    Answer, Event, Found, Job, Joined, Outcome, Place, Platform, Refusal, Run, Sums, MAX_TASKS,
 };
 
 /// The state of a refused start.
@@ -48,6 +49,16 @@ pub fn lookup(bytes: &[u8], kind: u64) -> Found {
     match sheet::lookup(bytes, kind) {
         Ok(section) => Found { number: 0, start: section.start, size: section.size },
         Err(number) => Found { number, start: 0, size: 0 },
+    }
+}
+
+pub fn join(first: &[u8], second: &[u8], buffer: &mut [u8]) -> Joined {
+    match joiner::join(first, second, buffer.len()) {
+        Ok(sheet) => {
+            buffer[..sheet.len()].copy_from_slice(&sheet);
+            Joined { number: 0, length: sheet.len() }
+        }
+        Err(number) => Joined { number, length: 0 },
     }
 }
 

@@ -1,7 +1,8 @@
-//! Document 01, followed literally. Plain and slow on purpose.
+//! Document 01 and the requests, followed literally. Plain and slow on purpose.
 
 pub mod calls;
 pub mod growth;
+pub mod join;
 pub mod log;
 pub mod plan;
 pub mod run;

@@ -1,11 +1,13 @@
 //! Random jobs, many of them at an edge.
 
 mod limits;
+mod partners;
 mod ties;
 mod values;
 
 use crate::random::Random;
 use crate::types::{Job, Platform};
+pub use partners::{light, partner};
 use values::{any_costs, any_rates, any_weights, split, total, MAX_TICKS};
 
 /// A job, and marks that belong to it if it was made for some.
