@@ -32,6 +32,19 @@ static void found(const char *name, uint64_t kind) {
     printf("%s: number %llu, start %zu, size %zu\n", name, (unsigned long long)f.number, f.start, f.size);
 }
 
+/* The sheet joined with itself into a buffer of 9s, and how many bytes of it are 9 still. */
+static struct pulvanor_joined joined(const char *name, size_t second_length, uint8_t *buffer, size_t room) {
+    struct pulvanor_joined j;
+    size_t i, left = 0;
+    for (i = 0; i < room; i++)
+        buffer[i] = 9;
+    j = pulvanor_join(sheet, sizeof sheet, sheet, second_length, buffer, room);
+    for (i = j.length; i < room; i++)
+        left += buffer[i] == 9;
+    printf("%s: number %llu, length %zu, untouched after it %zu\n", name, (unsigned long long)j.number, j.length, left);
+    return j;
+}
+
 /* Whether every field of a state is 0. */
 static int all_zero(const struct pulvanor_run *r) {
     const struct pulvanor_platform *p = &r->job.platform;
@@ -53,6 +66,8 @@ int main(void) {
     struct pulvanor_outcome refused = pulvanor_start(sheet, sizeof sheet, marks, 1);
     struct pulvanor_outcome first = pulvanor_follow(start.run, all, 15);
     struct pulvanor_run moved;
+    struct pulvanor_joined both;
+    uint8_t twice[70], four[4];
     size_t t;
     int past = 0;
 
@@ -62,6 +77,11 @@ int main(void) {
     found("platform", 1);
     found("weights", 2);
     found("kind 3", 3);
+    joined("joined, one byte short", sizeof sheet, twice, 65);
+    joined("joined with a cut sheet", 57, twice, sizeof twice);
+    both = joined("joined", sizeof sheet, twice, sizeof twice);
+    printf("  header %d %d %d %d, kinds %d %d\n", twice[0], twice[1], twice[2], twice[3], twice[20], twice[49]);
+    answer("plan of it", pulvanor_plan(twice, both.length, four, sizeof four));
     answer("price of 23", pulvanor_price(sheet, sizeof sheet, marks, sizeof marks));
     answer("price of 2", pulvanor_price(sheet, sizeof sheet, marks, 1));
     answer("price of a cut sheet", pulvanor_price(sheet, 57, marks, sizeof marks));

@@ -31,7 +31,8 @@ unfoldable pub distinct : List Condition → Bool
 distinct [] = true
 distinct (c ∷ cs) = not (eqb (c .number) Numbers.accepted) && (not (has (c .number) cs) && distinct cs)
 
--- the same as a fact, which is computed for each list of checks; a lookup's list alone gives 6 for two conditions, as document 01 says
+-- the same as a fact, which is computed for each list of checks but two: a lookup gives 6 for two conditions, as document 01 says, and a join asks 1 to 8 of each
+-- sheet and then 3 and 7 of both, as request 101 says
 abbrev pub Numbered : List Condition → Type 0
 Numbered cs = distinct cs ≡ true
 
