@@ -103,11 +103,14 @@ uint64_t pulvanor_mean_growth(uint64_t y);
    1 to 5. */
 struct pulvanor_found pulvanor_lookup(const uint8_t *sheet, size_t sheet_length, uint64_t kind);
 
-/* Two chains joined: a sheet with the first sheet's weights, then the second's, and the one platform, is the
-   first `length` bytes of the buffer (50 + 4 for each task). Refusals 1 to 8 of the first sheet, 1 to 8 of the
-   second, 26 (the platforms differ), then 3 (more than 64 tasks together), 7 (a total above 2^30) and 11 (the
-   buffer is shorter than the sheet). A refusal writes no byte, and later bytes are never touched. Nothing is said
-   of the least time of the whole from those of the two parts. */
+/* Two chains joined: the first `length` bytes of the buffer are one sheet, with the first sheet's weights, then
+   the second's, and the platform that both have. It is of form 1, the platform at 20, the weights at 49, without
+   gaps, 50 bytes and 4 for each task (PULVANOR_SHEET bytes always hold it), and every call accepts it as a
+   sheet. Refusals 1 to 8 of the first sheet, then 1 to 8 of the second, then 26 (one of the seven platform
+   fields differs), 3 (more than 64 tasks together), 7 (a total above 2^30) and 11 (the buffer is shorter than
+   the sheet). The number does not say which sheet is meant: pulvanor_plan tells it of each. A refusal writes no
+   byte, and later bytes are never touched. Nothing is said of the least time of the whole from those of the two
+   parts, since a recovery at the seam has a cost: plan the joined sheet. */
 struct pulvanor_joined pulvanor_join(const uint8_t *first, size_t first_length, const uint8_t *second, size_t second_length, uint8_t *buffer, size_t buffer_length);
 
 /* The time of the sheet under these marks, D(n) of document 01. Refusals 1 to 10 and 13. */

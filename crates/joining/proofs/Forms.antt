@@ -1,13 +1,13 @@
 -- A sheet that is written in form 1 is read as it was written: layout, sections and values. Assumes nothing.
-use Prim.Native.Nat.{ℕ, zero, suc, _+_, _*_, _≤_, _<_}
+use Prim.Native.Nat.{ℕ, _+_, _*_, _≤_, _<_}
 use mathlib.Core.Path.{_≡_, refl, sym, _∙_, ap}
-use mathlib.Core.Bool.{true, false, cond}
-use mathlib.Core.List.{List, [], _∷_, _++_}
+use mathlib.Core.Bool.{false, cond}
+use mathlib.Core.List.{List, [], _∷_}
 use native.Mathlib.Omega.{arith}
 use native.Mathlib.Decide.{decLt}
 use borrow.Author.Tests.{lt-ltb, le-ltb, eq-eqb, ne-eqb}
 use lib.Dec.{lit<, ltb}
-use lib.ListN.{length, getD, take, drop, List·getD-eq-default}
+use lib.ListN.{length, getD, drop, List·getD-eq-default}
 use lib.Seq.{take-all}
 use Rattle.lists.specs.Lists.{tabulate}
 use Rattle.lists.proofs.Lists.{tabulate-same}
@@ -18,7 +18,7 @@ use Rattle.job.specs.Checks.{badCount, jobConditions}
 use Rattle.job.proofs.Ranges.{count-range}
 use Rattle.job.specs.declared.Platform.{Platform}
 use Rattle.job.specs.declared.Job.{Job}
-use Rattle.sheet.specs.Bytes.{fieldAt, fieldLength}
+use Rattle.sheet.specs.Bytes.{fieldLength}
 use Rattle.sheet.specs.Layout.{
   tasks,
   offset,
@@ -92,6 +92,13 @@ module _ (p : Platform) (w : List ℕ) where
   weights-section =
       rw (weights-offset, weights-size, from-weights)
       (take-all (weightsLength (length w)) (weightsSection w) (omega (arith, length-fields w)))
+
+  -- the sections stand where the form says
+  pub platform-at : offset (formOne p w) (indexOf (formOne p w) platformKind) ≡ platformStart
+  platform-at = rw platform-first platform-offset
+
+  pub weights-at : offset (formOne p w) (indexOf (formOne p w) weightsKind) ≡ weightsStart
+  weights-at = rw weights-second weights-offset
 
   form-tasks : tasks (formOne p w) ≡ length w
   unfolding tasks formOne

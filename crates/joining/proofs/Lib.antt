@@ -5,6 +5,6 @@ pub mod Values
 pub mod Stores
 pub mod Sheets
 pub mod Parts
-pub mod Pairs
+pub mod Both
 pub mod Answers
 pub mod Theorems

@@ -1,6 +1,6 @@
 -- The parts of a joined sheet, stored one after the other. Assumes nothing.
 use Prim.Native.Nat.{ℕ, _+_, _*_, _≤_}
-use mathlib.Core.Path.{_≡_, refl, sym, _∙_}
+use mathlib.Core.Path.{_≡_}
 use mathlib.Core.List.{List, [], _∷_, _++_, append-assoc}
 use native.Mathlib.Nat.{zero-add}
 use native.Mathlib.Omega.{arith}
@@ -12,7 +12,7 @@ use Rattle.sheet.specs.Bytes.{fieldLength}
 use Rattle.sheet.specs.Layout.{platformLength, weightsLength}
 use Rattle.joining.specs.Form.{fields, platformStart, weightsStart, platformFields, header, platformSection, weightsSection, formOne}
 use Rattle.joining.specs.Join.{taskWeights, joinedWeights, joinedSheet}
-use Rattle.joining.specs.Working.Ready.{Pair}
+use Rattle.joining.specs.Working.Ready.{Both}
 use Rattle.joining.proofs.Fields.{length-fields, fields-append}
 use Rattle.joining.proofs.Stores.{sets-append}
 use Rattle.joining.proofs.Forms.{form-length}
@@ -44,11 +44,11 @@ form-stored p w b h =
     header-length : platformStart ≡ 0 + length (header (length w))
     header-length = omega (arith, length-fields (platformStart ∷ platformLength ∷ weightsStart ∷ weightsLength (length w) ∷ []))
 
-module _ (a b : Job) (pair : Pair a b) where
+module _ (a b : Job) (both : Both a b) where
   pub length-sheet : length (joinedSheet a b) ≡ weightsStart + weightsLength (a .tasks + b .tasks)
   unfolding joinedSheet
   length-sheet =
-      let tasks = joined-length a b (pair .held-first) (pair .held-second) in
+      let tasks = joined-length a b (both .held-first) (both .held-second) in
       omega (arith, form-length (a .platform) (joinedWeights a b), tasks)
 
   -- the joined sheet, at the front of a buffer that holds it
@@ -57,5 +57,5 @@ module _ (a b : Job) (pair : Pair a b) where
       ≡ joinedSheet a b ++ drop (length (joinedSheet a b)) l
   unfolding joinedSheet
   sheet-stored l h =
-      rw (← (joined-length a b (pair .held-first) (pair .held-second)))
+      rw (← (joined-length a b (both .held-first) (both .held-second)))
       (form-stored (a .platform) (joinedWeights a b) l (omega (arith, length-sheet)))

@@ -9,27 +9,25 @@ use borrow.Author.Tests.{le-ltb, ne-eqb, eq-eqb}
 use lib.ListN.{length, take, drop, length-append, length-drop}
 use lib.Seq.{take-append-seam}
 use Rattle.refusals.specs.Numbers
-use Rattle.refusals.specs.Refusals.{first}
 use Rattle.refusals.proofs.Refusals.{first-goes-on, first-none}
-use Rattle.job.specs.Job.{taskLimit, weightAt, total}
+use Rattle.job.specs.Job.{taskLimit}
 use Rattle.job.specs.Checks.{badCount}
-use Rattle.job.specs.declared.Job.{Job}
 use Rattle.job.proofs.Ranges.{values-passed}
 use Rattle.sheet.specs.Reading.{jobOf, sheetConditions, sheetRefusal, readingOf}
 use Rattle.sheet.proofs.Readings.{sheet-numbered, sheet-layout, sheet-goes-on, sheet-sound}
-use Rattle.sheet.specs.declared.JobReading.{JobReading}
 use Rattle.joining.specs.Join.{JoinReads, joinedWeights, joinedSheet, joinedJob, joinRefusal, Joins}
 use Rattle.joining.specs.declared.Joined.{Joined}
-use Rattle.joining.proofs.Forms.{formJob, form-reads}
-use Rattle.joining.proofs.Parts.{sheet-held}
-use Rattle.joining.proofs.Pairs.{PairPassed, pair-passed}
+use Rattle.joining.proofs.Forms.{form-reads, platform-at, weights-at}
+use Rattle.joining.proofs.Sheets.{length-sheet}
+use Rattle.joining.proofs.Parts.{both-accepted}
+use Rattle.joining.proofs.Both.{BothPassed, both-passed}
 use Rattle.joining.proofs.Values.{same-platform, joined-length, Joinable, whole-passes}
 
 -- what passing every check of a join means
 pub record JoinPassed (s t : List ℕ) (room : ℕ) : Type 0 where
   pub first-read : sheetRefusal s ≡ 0
   pub second-read : sheetRefusal t ≡ 0
-  pub pair : PairPassed (jobOf s) (jobOf t) room
+  pub both : BothPassed (jobOf s) (jobOf t) room
 
 module _ (s t : List ℕ) (room : ℕ) where
   pub join-passed : joinRefusal s t room ≡ 0 → JoinPassed s t room
@@ -38,25 +36,24 @@ module _ (s t : List ℕ) (room : ℕ) where
       let of-first = first-none (sheetConditions s) _ e in
       let rest = sym (first-goes-on (sheetConditions s) _ (sheet-numbered s) of-first) ∙ e in
       let of-second = first-none (sheetConditions t) _ rest in
-      let pair = sym (first-goes-on (sheetConditions t) _ (sheet-numbered t) of-second) ∙ rest in
-      record { first-read = of-first; second-read = of-second; pair = pair-passed (jobOf s) (jobOf t) room pair }
+      let both = sym (first-goes-on (sheetConditions t) _ (sheet-numbered t) of-second) ∙ rest in
+      record { first-read = of-first; second-read = of-second; both = both-passed (jobOf s) (jobOf t) room both }
 
   module _ (passed : JoinPassed s t room) where
     joinable : Joinable (jobOf s) (jobOf t)
     joinable =
         record {
-          held-first = sheet-held s (passed .first-read);
-          held-second = sheet-held t (passed .second-read);
+          both = both-accepted s t (passed .first-read) (passed .second-read);
           passed-first = values-passed (jobOf s) (sheet-goes-on s (sheet-layout s (passed .first-read)) ∙ passed .first-read);
           passed-second = values-passed (jobOf t) (sheet-goes-on t (sheet-layout t (passed .second-read)) ∙ passed .second-read);
-          one-platform = same-platform _ _ (passed .pair .one-platform);
-          few-tasks = passed .pair .few;
-          sum = passed .pair .light;
+          one-platform = same-platform _ _ (passed .both .one-platform);
+          few-tasks = passed .both .few;
+          sum = passed .both .light;
         }
 
     -- the joined list of weights has as many as the tasks of both
     length-joined : length (joinedWeights (jobOf s) (jobOf t)) ≡ jobOf s .tasks + jobOf t .tasks
-    length-joined = joined-length (jobOf s) (jobOf t) (joinable .held-first) (joinable .held-second)
+    length-joined = joined-length (jobOf s) (jobOf t) (joinable .both .held-first) (joinable .both .held-second)
 
     counted : badCount (length (joinedWeights (jobOf s) (jobOf t))) ≡ false
     unfolding badCount
@@ -82,8 +79,8 @@ module _ (s t before after : List ℕ) (r : Joined) (joins : Joins s t before af
   join-length = go refused-or-not
     where
       go : Dec (joinRefusal s t (length before) ≡ 0) → r .length ≤ length before
-      go (yes e) = rw (joins .written, eq-eqb _ _ e) (join-passed s t (length before) e .pair .holds)
-      go (no h) = rw (joins .written, ne-eqb _ _ h) (omega arith)
+      go (yes e) = rw (joins .size, eq-eqb _ _ e) (join-passed s t (length before) e .both .holds)
+      go (no h) = rw (joins .size, ne-eqb _ _ h) (omega arith)
 
   pub join-keeps-length : length after ≡ length before
   join-keeps-length = go refused-or-not
@@ -98,7 +95,7 @@ module _ (s t before after : List ℕ) (r : Joined) (joins : Joins s t before af
             arith,
             length-append sheet (drop (length sheet) before),
             length-drop (length sheet) before,
-            join-passed s t (length before) e .pair .holds,
+            join-passed s t (length before) e .both .holds,
           ))
       go (no h) = rw (joins .buffer, ne-eqb _ _ h) refl
 
@@ -109,17 +106,19 @@ module _ (s t before after : List ℕ) (r : Joined) (joins : Joins s t before af
   -- the first bytes of the buffer, as many as the answer says, are the joined sheet
   written : take (r .length) after ≡ joinedSheet (jobOf s) (jobOf t)
   written =
-      rw (joins .written, joins .buffer, eq-eqb (joinRefusal s t (length before)) 0 not-refused)
+      rw (joins .size, joins .buffer, eq-eqb (joinRefusal s t (length before)) 0 not-refused)
       (take-append-seam (joinedSheet (jobOf s) (jobOf t)) (drop (length (joinedSheet (jobOf s) (jobOf t))) before))
 
   pub join-reads : JoinReads s t (take (r .length) after)
-  unfolding joinedJob
+  unfolding joinedSheet
   join-reads =
       let passed = join-passed s t (length before) not-refused in
-      let reading = ap readingOf written ∙ sheet-reads s t (length before) passed in
-      let platform = ap (λ (q : JobReading). q .job .platform) reading in
       record {
-        reading = reading;
-        first-platform = platform;
-        second-platform = platform ∙ same-platform _ _ (passed .pair .one-platform);
+        first-read = passed .first-read;
+        second-read = passed .second-read;
+        reading = ap readingOf written ∙ sheet-reads s t (length before) passed;
+        one-platform = same-platform _ _ (passed .both .one-platform);
+        platform-at = rw written (platform-at (jobOf s .platform) (joinedWeights (jobOf s) (jobOf t)));
+        weights-at = rw written (weights-at (jobOf s .platform) (joinedWeights (jobOf s) (jobOf t)));
+        ends = rw written (length-sheet (jobOf s) (jobOf t) (joinable s t (length before) passed .both));
       }

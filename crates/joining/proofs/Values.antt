@@ -1,17 +1,16 @@
 -- The values of two accepted sheets as one chain: each weight where it belongs, their total, and that checks 7 and 8 pass. Assumes nothing.
 use Prim.Native.Nat.{ℕ, zero, suc, _+_, _-_, _≤_, _<_}
-use mathlib.Core.Path.{_≡_, refl, sym, _∙_, ap}
-use mathlib.Core.Bool.{Bool, true, false, not, _||_}
-use mathlib.Core.List.{List, _++_}
+use mathlib.Core.Path.{_≡_, refl, _∙_}
+use mathlib.Core.Bool.{true, false, not, _||_}
+use mathlib.Core.List.{List}
 use native.Mathlib.Decide.{decLt}
-use native.Mathlib.Numerals.{add-one}
 use native.Mathlib.Omega.{arith}
 use borrow.Author.Tests.{le-ltb, eqb-true}
 use lib.Dec.{ltb, eqb}
-use lib.ListN.{length, take, length-append, List·getD-append}
+use lib.ListN.{length, length-append, List·getD-append}
 use lib.Seq.{length-take-le, getD-take, getD-append-add}
 use Rattle.units.specs.Limits.{costLimit}
-use Rattle.lists.specs.Lists.{some, tabulate}
+use Rattle.lists.specs.Lists.{some}
 use Rattle.lists.proofs.Lists.{or-fails, and-holds, some-fails, some-none, getD-tabulate}
 use Rattle.refusals.specs.Refusals.{first}
 use Rattle.job.specs.Job.{taskLimit, weightAt, total, isAllowed}
@@ -21,6 +20,7 @@ use Rattle.job.specs.declared.Job.{Job}
 use Rattle.job.proofs.Ranges.{ValuesPassed, value-passes}
 use Rattle.job.proofs.Weights.{total-more}
 use Rattle.joining.specs.Join.{taskWeights, joinedWeights, samePlatform}
+use Rattle.joining.specs.Working.Ready.{Both}
 use Rattle.joining.proofs.Forms.{formJob}
 
 -- totals of weights that are the same
@@ -102,8 +102,7 @@ module _ (job : Job) (passed : ValuesPassed job) where
 
 -- both pass checks 7 and 8 and share their platform, and their total is in range: so does the joined chain
 pub record Joinable (a b : Job) : Type 0 where
-  pub held-first : a .tasks ≤ length (a .weights)
-  pub held-second : b .tasks ≤ length (b .weights)
+  pub both : Both a b
   pub passed-first : ValuesPassed a
   pub passed-second : ValuesPassed b
   pub one-platform : a .platform ≡ b .platform
@@ -115,14 +114,14 @@ module _ (a b : Job) (joinable : Joinable a b) where
   whole = formJob (a .platform) (joinedWeights a b)
 
   whole-tasks : whole .tasks ≡ a .tasks + b .tasks
-  whole-tasks = joined-length a b (joinable .held-first) (joinable .held-second)
+  whole-tasks = joined-length a b (joinable .both .held-first) (joinable .both .held-second)
 
   whole-weight : (j : ℕ) → j < a .tasks + b .tasks → weightAt (whole .weights) j ≡ weightAt (joinedWeights a b) j
   whole-weight j h = getD-tabulate taskLimit (weightAt (joinedWeights a b)) j (omega (arith, joinable .few-tasks))
 
   whole-each : (P : ℕ → Type 0) → ((j : ℕ) → j < a .tasks → P (weightAt (a .weights) j)) → ((j : ℕ) → j < b .tasks → P (weightAt (b .weights) j))
       → (j : ℕ) → j < a .tasks + b .tasks → P (weightAt (whole .weights) j)
-  whole-each P of-a of-b j h = rw (whole-weight j h) (each a b (joinable .held-first) (joinable .held-second) P of-a of-b j h)
+  whole-each P of-a of-b j h = rw (whole-weight j h) (each a b (joinable .both .held-first) (joinable .both .held-second) P of-a of-b j h)
 
   weights-right : some (a .tasks + b .tasks) (badWeight (whole .weights)) ≡ false
   unfolding badWeight
@@ -133,7 +132,7 @@ module _ (a b : Job) (joinable : Joinable a b) where
   whole-total : total (whole .weights) (a .tasks + b .tasks) ≡ total (a .weights) (a .tasks) + total (b .weights) (b .tasks)
   whole-total =
       total-same (whole .weights) (joinedWeights a b) (a .tasks + b .tasks) whole-weight
-      ∙ total-split a b (joinable .held-first) (joinable .held-second) (b .tasks) (omega arith)
+      ∙ total-split a b (joinable .both .held-first) (joinable .both .held-second) (b .tasks) (omega arith)
 
   whole-value : badValue whole ≡ false
   whole-value =

@@ -12,8 +12,9 @@ use Rattle.refusals.specs.Refusals.{Condition, refusal, first}
 use Rattle.job.specs.Job.{taskLimit, weightAt, total}
 use Rattle.job.specs.declared.Platform.{Platform}
 use Rattle.job.specs.declared.Job.{Job}
-use Rattle.sheet.specs.Reading.{jobOf, sheetConditions, readingOf}
-use Rattle.joining.specs.Form.{formOne}
+use Rattle.sheet.specs.Layout.{platformKind, weightsKind, weightsLength, offset, indexOf}
+use Rattle.sheet.specs.Reading.{jobOf, sheetConditions, sheetRefusal, readingOf}
+use Rattle.joining.specs.Form.{platformStart, weightsStart, formOne}
 use Rattle.joining.specs.declared.Joined.{Joined}
 
 -- the weights of a sheet's tasks, in order
@@ -24,7 +25,7 @@ taskWeights job = take (job .tasks) (job .weights)
 abbrev pub joinedWeights : Job → Job → List ℕ
 joinedWeights a b = taskWeights a ++ taskWeights b
 
--- 'with one platform section, in form 1'
+-- 'with one platform section', 'in form 1'
 unfoldable pub joinedSheet : Job → Job → List ℕ
 joinedSheet a b = formOne (a .platform) (joinedWeights a b)
 
@@ -58,8 +59,8 @@ unfoldable pub tooShort : Job → Job → (room : ℕ) → Bool
 tooShort a b room = ltb room (length (joinedSheet a b))
 
 -- what is asked of two sheets that are accepted each: 26, 3, 7, 11
-abbrev pub pairConditions : Job → Job → (room : ℕ) → List Condition
-pairConditions a b room =
+abbrev pub bothConditions : Job → Job → (room : ℕ) → List Condition
+bothConditions a b room =
     refusal Numbers.otherPlatform (not (samePlatform (a .platform) (b .platform)))
     ∷ refusal Numbers.badCount (tooMany a b)
     ∷ refusal Numbers.badValue (tooHeavy a b)
@@ -68,25 +69,32 @@ pairConditions a b room =
 
 -- checks 1 to 8 of the first sheet s, then of the second sheet t, then of the two
 abbrev pub joinConditions : (s t : List ℕ) → (room : ℕ) → List Condition
-joinConditions s t room = sheetConditions s ++ (sheetConditions t ++ pairConditions (jobOf s) (jobOf t) room)
+joinConditions s t room = sheetConditions s ++ (sheetConditions t ++ bothConditions (jobOf s) (jobOf t) room)
 
 -- the first of them that holds, or 0
 unfoldable pub joinRefusal : (s t : List ℕ) → (room : ℕ) → ℕ
 joinRefusal s t room = first (joinConditions s t room)
 
--- the answer r and the buffer after, where `refusal` is the first number that the checks give. Refused: length 0 and no byte written.
+-- the answer r and the buffer after, where `decided` is the number that the checks give. Refused: length 0 and no byte written.
 -- Accepted: the first bytes are the sheet's, as many as it has, and later bytes are never touched
-pub record Writes (refusal : ℕ) (sheet before after : List ℕ) (r : Joined) : Type 0 where
-  pub number : r .number ≡ refusal
-  pub written : r .length ≡ cond (eqb refusal Numbers.accepted) (length sheet) 0
-  pub buffer : after ≡ cond (eqb refusal Numbers.accepted) (sheet ++ drop (length sheet) before) before
+pub record Writes (decided : ℕ) (sheet before after : List ℕ) (r : Joined) : Type 0 where
+  pub number : r .number ≡ decided
+  pub size : r .length ≡ cond (eqb decided Numbers.accepted) (length sheet) 0
+  pub buffer : after ≡ cond (eqb decided Numbers.accepted) (sheet ++ drop (length sheet) before) before
 
 -- the answer to the sheets s and t, with the lent buffer before and after
 abbrev pub Joins : (s t before after : List ℕ) → Joined → Type 0
 Joins s t before after r = Writes (joinRefusal s t (length before)) (joinedSheet (jobOf s) (jobOf t)) before after r
 
--- 'Reading the joined sheet gives just those values': it is accepted, its weights are the first sheet's and then the second's, and its platform is that of both
+-- what an accepted join of s and t means for the bytes written: 'Reading the joined sheet gives just those values'
 pub record JoinReads (s t sheet : List ℕ) : Type 0 where
+  -- both were accepted
+  pub first-read : sheetRefusal s ≡ Numbers.accepted
+  pub second-read : sheetRefusal t ≡ Numbers.accepted
+  -- so is the sheet, and its values are the first sheet's weights, then the second's, and the first's platform, which is the second's too
   pub reading : readingOf sheet ≡ record { number = Numbers.accepted; job = joinedJob (jobOf s) (jobOf t) }
-  pub first-platform : readingOf sheet .job .platform ≡ jobOf s .platform
-  pub second-platform : readingOf sheet .job .platform ≡ jobOf t .platform
+  pub one-platform : jobOf s .platform ≡ jobOf t .platform
+  -- 'platform at 20, weights at 49', and nothing after them
+  pub platform-at : offset sheet (indexOf sheet platformKind) ≡ platformStart
+  pub weights-at : offset sheet (indexOf sheet weightsKind) ≡ weightsStart
+  pub ends : length sheet ≡ weightsStart + weightsLength (jobOf s .tasks + jobOf t .tasks)

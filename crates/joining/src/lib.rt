@@ -4,8 +4,8 @@ ghost use mathlib.Core.Path.{_≡_};
 ghost use lib.ListN.{length};
 ghost use Rattle.refusals.specs.Refusals.{first};
 ghost use Rattle.sheet.specs.Reading.{jobOf};
-ghost use Rattle.joining.specs.Join.{samePlatform, pairConditions, joinedSheet, Writes, Joins};
-ghost use Rattle.joining.specs.Working.Ready.{Pair, ReadyForWeights, numberIn};
+ghost use Rattle.joining.specs.Join.{samePlatform, bothConditions, joinedSheet, Writes, Joins};
+ghost use Rattle.joining.specs.Working.Ready.{refusedJoin, Both, WasRead, numberIn};
 use job::Job;
 use job::Platform;
 use job::TASK_LIMIT;
@@ -18,7 +18,6 @@ use refusals::OTHER_PLATFORM;
 use refusals::SHORT_BUFFER;
 use sheet::Reading;
 use sheet::Sheet;
-use sheet::bytes::FIELD_LENGTH;
 use sheet::read::read;
 use sheet::read::weights_of;
 
@@ -26,12 +25,19 @@ mod write;
 
 use write::put_sheet;
 use write::sheet_length;
+use write::weights_length;
 
 // The answer of a join: 0 and how many bytes of the buffer are the sheet, or the number of its refusal and 0.
 #[repr(C)]
 pub struct Joined {
     pub number: u64,
     pub length: usize,
+}
+
+fn refused(number: u64) -> Joined
+    ensures { λ r. ⌜ r ≡ refusedJoin number ⌝ }
+{
+    Joined { number, length: 0 }
 }
 
 // Whether the seven platform fields are the same.
@@ -59,17 +65,17 @@ fn is_same(p: Platform, q: Platform) -> bool
     p.rm == q.rm
 }
 
-// The first of 26, 3, 7 and 11 that holds, or 0. The total is taken in 64 bits, which no weights can wrap.
-fn pair_refusal(a: Job, b: Job, room: usize) -> u64
-    requires { ⌜ Pair a b ⌝ }
-    ensures { λ r. ⌜ r ≡ first (pairConditions a b room) ⌝ }
+// The first of 26, 3, 7 and 11 that holds of both together, or 0. The total is taken in 64 bits, which no weights can wrap.
+fn both_refusal(a: Job, b: Job, room: usize) -> u64
+    requires { ⌜ Both a b ⌝ }
+    ensures { λ r. ⌜ r ≡ first (bothConditions a b room) ⌝ }
 {
     let same = is_same(a.platform, b.platform);
     let n = a.tasks + b.tasks;
-    let first = a.weights;
-    let second = b.weights;
-    let total = weight_to(first, a.tasks) + weight_to(second, b.tasks);
-    let length = sheet_length(n);
+    let early = a.weights;
+    let late = b.weights;
+    let total = weight_to(early, a.tasks) + weight_to(late, b.tasks);
+    let size = sheet_length(n);
     if !same {
         return OTHER_PLATFORM;
     }
@@ -79,7 +85,7 @@ fn pair_refusal(a: Job, b: Job, room: usize) -> u64
     if TOTAL_LIMIT < total {
         return BAD_VALUE;
     }
-    if room < length {
+    if room < size {
         return SHORT_BUFFER;
     }
     0
@@ -87,12 +93,12 @@ fn pair_refusal(a: Job, b: Job, room: usize) -> u64
 
 // The sheets of two jobs joined. Every refusal is known before a byte is written.
 fn join_jobs(a: Job, b: Job, buffer: &mut [u8]) -> Joined
-    requires { ⌜ Pair a b ⌝ }
-    ensures { λ r. ⌜ Writes (first (pairConditions a b (length (now (buffer .entry))))) (joinedSheet a b) (now (buffer .entry)) (now (buffer .exit)) r ⌝ }
+    requires { ⌜ Both a b ⌝ }
+    ensures { λ r. ⌜ Writes (first (bothConditions a b (length (now (buffer .entry))))) (joinedSheet a b) (now (buffer .entry)) (now (buffer .exit)) r ⌝ }
 {
-    let number = pair_refusal(a, b, buffer.len());
+    let number = both_refusal(a, b, buffer.len());
     if number != 0 {
-        return Joined { number, length: 0 };
+        return refused(number);
     }
     put_sheet(buffer, a, b);
     Joined {
@@ -102,13 +108,13 @@ fn join_jobs(a: Job, b: Job, buffer: &mut [u8]) -> Joined
 }
 
 // The values of an accepted sheet with their weights, which are read from their part of it.
-fn job_of(s: &[u8], values: Sheet) -> Job
-    requires { ⌜ ReadyForWeights (now s) values ⌝ }
+fn with_weights(s: &[u8], values: Sheet) -> Job
+    requires { ⌜ WasRead (now s) values ⌝ }
     ensures { λ r. ⌜ r ≡ jobOf (now (s .entry)) ⌝ }
 {
     let start = values.weights;
     let n = values.tasks;
-    let end = start + 1 + FIELD_LENGTH * n;
+    let end = start + weights_length(n);
     let weights = weights_of(&s[start..end], n);
     let platform = values.platform;
     Job {
@@ -118,7 +124,7 @@ fn job_of(s: &[u8], values: Sheet) -> Job
     }
 }
 
-// The number of a reading: 0 if it is accepted.
+// The number of a reading, which is 0 if it is accepted.
 fn number_of(reading: Reading) -> u64
     ensures { λ r. ⌜ r ≡ numberIn reading ⌝ }
 {
@@ -128,23 +134,17 @@ fn number_of(reading: Reading) -> u64
     }
 }
 
-// The joined sheet of the first and the second, or the first of checks 1 to 8 of the first, 1 to 8 of the second, 26, 3, 7 and 11 that holds.
+// The joined sheet, or the first of checks 1 to 8 of the first sheet, 1 to 8 of the second, and 26, 3, 7 and 11 of both that holds.
 pub fn join(first: &[u8], second: &[u8], buffer: &mut [u8]) -> Joined
     ensures { λ r. ⌜ Joins (now (first .entry)) (now (second .entry)) (now (buffer .entry)) (now (buffer .exit)) r ⌝ }
 {
     let reading = read(first);
     let Reading::Accepted(a) = reading else {
-        return Joined {
-            number: number_of(reading),
-            length: 0,
-        };
+        return refused(number_of(reading));
     };
     let other = read(second);
     let Reading::Accepted(b) = other else {
-        return Joined {
-            number: number_of(other),
-            length: 0,
-        };
+        return refused(number_of(other));
     };
-    join_jobs(job_of(first, a), job_of(second, b), buffer)
+    join_jobs(with_weights(first, a), with_weights(second, b), buffer)
 }

@@ -2,14 +2,14 @@
 ghost use mathlib.Core.Path.{_≡_};
 ghost use mathlib.Core.List.{_++_};
 ghost use Prim.Native.Nat.{_+_, _*_, _≤_};
-ghost use lib.ListN.{length, take, drop};
+ghost use lib.ListN.{length, drop};
 ghost use lib.Seq.{sets};
 ghost use Rattle.job.specs.Job.{taskLimit};
 ghost use Rattle.sheet.specs.Bytes.{fieldLength};
 ghost use Rattle.sheet.specs.Layout.{platformLength, weightsLength};
 ghost use Rattle.joining.specs.Form.{fieldBytes, fields, platformStart, weightsStart, header, platformSection, weightsSection};
 ghost use Rattle.joining.specs.Join.{joinedWeights, joinedSheet};
-ghost use Rattle.joining.specs.Working.Ready.{ReadyForFields, ReadyForHeader, ReadyForSheet};
+ghost use Rattle.joining.specs.Working.Ready.{ReadyForHeader, ReadyForSheet};
 use job::Job;
 use job::Platform;
 use sheet::PLATFORM_KIND;
@@ -35,16 +35,24 @@ fn put_field(buffer: &mut [u8], at: usize, x: u32)
     buffer[at + 3] = (x / 16_777_216) as u8;
 }
 
-// The first n of these values as fields, one after the other, from byte `at` on.
-fn put_fields(buffer: &mut [u8], at: usize, values: &[u32], n: usize)
-    requires { ⌜ ReadyForFields (now buffer) at (now values) n ⌝ }
-    ensures { λ _. ⌜ now (buffer .exit) ≡ sets (now (buffer .entry)) at (fields (take n (now (values .entry)))) ⌝ }
+// These values as fields, one after the other, from byte `at` on.
+fn put_fields(buffer: &mut [u8], at: usize, values: &[u32])
+    requires { ⌜ at + fieldLength * length (now values) ≤ length (now buffer) ⌝ }
+    ensures { λ _. ⌜ now (buffer .exit) ≡ sets (now (buffer .entry)) at (fields (now (values .entry))) ⌝ }
 {
     let mut j: usize = 0;
-    while j < n {
+    while j < values.len() {
         put_field(buffer, at + FIELD_LENGTH * j, values[j]);
         j += 1;
     }
+}
+
+// How long the weights section of n tasks is, with its kind byte.
+pub fn weights_length(n: usize) -> usize
+    requires { ⌜ n ≤ 2 * taskLimit ⌝ }
+    ensures { λ r. ⌜ r ≡ weightsLength n ⌝ }
+{
+    1 + FIELD_LENGTH * n
 }
 
 // How long the sheet of n tasks is.
@@ -52,7 +60,7 @@ pub fn sheet_length(n: usize) -> usize
     requires { ⌜ n ≤ 2 * taskLimit ⌝ }
     ensures { λ r. ⌜ r ≡ weightsStart + weightsLength n ⌝ }
 {
-    WEIGHTS_START + 1 + FIELD_LENGTH * n
+    WEIGHTS_START + weights_length(n)
 }
 
 fn put_header(buffer: &mut [u8], n: usize)
@@ -67,9 +75,9 @@ fn put_header(buffer: &mut [u8], n: usize)
         PLATFORM_START as u32,
         PLATFORM_LENGTH as u32,
         WEIGHTS_START as u32,
-        (1 + FIELD_LENGTH * n) as u32,
+        weights_length(n) as u32,
     ];
-    put_fields(buffer, PAIRS_START, &pairs[..], 4);
+    put_fields(buffer, PAIRS_START, &pairs[..]);
 }
 
 fn put_platform(buffer: &mut [u8], p: Platform)
@@ -78,7 +86,7 @@ fn put_platform(buffer: &mut [u8], p: Platform)
 {
     buffer[PLATFORM_START] = PLATFORM_KIND as u8;
     let values = [p.failstop, p.silent, p.cd, p.cm, p.v, p.rd, p.rm];
-    put_fields(buffer, PLATFORM_START + 1, &values[..], 7);
+    put_fields(buffer, PLATFORM_START + 1, &values[..]);
 }
 
 // The first sheet's weights, then the second's.
@@ -87,11 +95,13 @@ fn put_weights(buffer: &mut [u8], a: Job, b: Job)
     ensures { λ _. ⌜ now (buffer .exit) ≡ sets (now (buffer .entry)) weightsStart (weightsSection (joinedWeights a b)) ⌝ }
 {
     buffer[WEIGHTS_START] = WEIGHTS_KIND as u8;
-    let first = a.weights;
-    let second = b.weights;
+    let early = a.weights;
+    let late = b.weights;
+    let n = a.tasks;
+    let m = b.tasks;
     let start = WEIGHTS_START + 1;
-    put_fields(buffer, start, &first[..], a.tasks);
-    put_fields(buffer, start + FIELD_LENGTH * a.tasks, &second[..], b.tasks);
+    put_fields(buffer, start, &early[..n]);
+    put_fields(buffer, start + FIELD_LENGTH * n, &late[..m]);
 }
 
 // The joined sheet of two jobs, at the front of the buffer, and nothing else.

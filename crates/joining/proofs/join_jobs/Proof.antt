@@ -1,29 +1,33 @@
--- `joining::join_jobs` meets its contract. A pair that is not refused has few tasks and a buffer that holds its sheet. Assumes nothing.
+-- `joining::join_jobs` meets its contract. Two jobs that are not refused have few tasks and a buffer that holds its sheet. Assumes nothing.
 use mathlib.Core.Path.{sym, _∙_}
 use native.Mathlib.Nat.{le-trans, le-of-eq}
 use Rattle.joining.proofs.Sheets.{length-sheet}
-use Rattle.joining.proofs.Pairs.{pair-passed, length-taken}
+use Rattle.joining.proofs.Both.{both-passed, length-taken}
 use Rattle.joining.proofs.Answers.{writes-refused, writes-sheet}
 use borrow.Author.Needs.{needs}
 use Rattle.joining.proofs.join_jobs.Statement.{statement}
 use Rattle.joining.proofs.join_jobs.Tie as tie
 
-pair-refusal-requires : tie.Need-pair-refusal-requires
-pair-refusal-requires c κs = search needs
+both-refusal-requires : tie.Need-both-refusal-requires
+both-refusal-requires c κs = search needs
+
+refused-requires : tie.Need-refused-requires
+refused-requires c κs = search needs
 
 returns : tie.Need-returns
 returns c =
-    let pair-refusal = c .before .pair-refusal in
-    let if1 = c .if1 in
-    writes-refused _ _ (pair-refusal .ensures) (if1 .taken)
+    let both-refusal = c .before .before .both-refusal in
+    let if1 = c .before .if1 in
+    let refused = c .refused in
+    rw (refused .ensures) (writes-refused _ _ (both-refusal .ensures) (if1 .taken))
 
 put-sheet-requires : tie.Need-put-sheet-requires
 put-sheet-requires c κs =
     let start = c .before .before .before .before in
-    let pair-refusal = c .before .before .pair-refusal in
+    let both-refusal = c .before .before .both-refusal in
     let if1 = c .before .if1 in
-    let passed = pair-passed _ _ _ (sym (pair-refusal .ensures) ∙ if1 .left) in
-    record { pair = start .pre; few = passed .few; room = le-trans (le-of-eq (sym (length-sheet _ _ (start .pre)))) (passed .holds) }
+    let passed = both-passed _ _ _ (sym (both-refusal .ensures) ∙ if1 .left) in
+    record { both = start .pre; few = passed .few; room = le-trans (le-of-eq (sym (length-sheet _ _ (start .pre)))) (passed .holds) }
 
 add-sheet-length : tie.Need-add-sheet-length
 add-sheet-length c = search needs
@@ -37,17 +41,18 @@ same-length c = search needs
 returns-2 : tie.Need-returns-2
 returns-2 c =
     let start = c .before .before .before .before .before .before .before .before .before .before in
-    let pair-refusal = c .before .before .before .before .before .before .before .before .pair-refusal in
+    let both-refusal = c .before .before .before .before .before .before .before .before .both-refusal in
     let if1 = c .before .before .before .before .before .before .before .if1 in
     let put-sheet = c .before .before .before .before .before .put-sheet in
     let sheet-length = c .sheet-length in
-    writes-sheet _ _ _ (sym (if1 .left) ∙ pair-refusal .ensures) (length-taken _ _ (start .pre) (sheet-length .ensures)) (put-sheet .ensures)
+    writes-sheet _ _ _ (sym (if1 .left) ∙ both-refusal .ensures) (length-taken _ _ (start .pre) (sheet-length .ensures)) (put-sheet .ensures)
 
 pub join-jobs-spec : {M : Type 1} → statement M
 join-jobs-spec =
     tie.close
     (tie.spec
-    pair-refusal-requires
+    both-refusal-requires
+    refused-requires
     returns
     put-sheet-requires
     add-sheet-length

@@ -1,44 +1,39 @@
--- What the functions of this crate ask of their callers, which are in it.
-use Prim.Native.Nat.{ℕ, _+_, _*_, _≤_}
+-- What the functions of this crate ask of their callers, which are in it, and what they take of an answer.
+use Prim.Native.Nat.{ℕ, _+_, _≤_}
 use mathlib.Core.Path.{_≡_}
 use mathlib.Core.List.{List}
 use lib.ListN.{length}
 use Rattle.refusals.specs.Numbers
 use Rattle.job.specs.Job.{taskLimit}
 use Rattle.job.specs.declared.Job.{Job}
-use Rattle.sheet.specs.Bytes.{fieldLength}
 use Rattle.sheet.specs.Layout.{weightsLength}
 use Rattle.sheet.specs.Reading.{sheetRefusal, sheetOf}
 use Rattle.sheet.specs.declared.Sheet.{Sheet}
 use Rattle.sheet.specs.declared.Reading.{Reading}
 use Rattle.sheet.specs.declared.Reading.the-variants.{Accepted, Refused}
 use Rattle.joining.specs.Form.{platformStart, weightsStart}
-
--- n of the values are there, and the buffer has room for them from `at` on
-pub record ReadyForFields (buffer : List ℕ) (at : ℕ) (values : List ℕ) (n : ℕ) : Type 0 where
-  pub held : n ≤ length values
-  pub room : at + fieldLength * n ≤ length buffer
+use Rattle.joining.specs.declared.Joined.{Joined}
 
 -- a task count that a byte holds, and room for the header before the platform
 pub record ReadyForHeader (n : ℕ) (buffer : List ℕ) : Type 0 where
   pub few : n ≤ taskLimit
   pub room : platformStart ≤ length buffer
 
--- two jobs that passed check 3, with a weight for each task
-pub record Pair (a b : Job) : Type 0 where
+-- two jobs of at most 64 tasks each, with a weight for each task
+pub record Both (a b : Job) : Type 0 where
   pub few-first : a .tasks ≤ taskLimit
   pub few-second : b .tasks ≤ taskLimit
   pub held-first : a .tasks ≤ length (a .weights)
   pub held-second : b .tasks ≤ length (b .weights)
 
--- and a buffer that holds their sheet
+-- of at most 64 tasks together, and a buffer that holds their sheet
 pub record ReadyForSheet (a b : Job) (buffer : List ℕ) : Type 0 where
-  pub pair : Pair a b
+  pub both : Both a b
   pub few : a .tasks + b .tasks ≤ taskLimit
   pub room : weightsStart + weightsLength (a .tasks + b .tasks) ≤ length buffer
 
 -- an accepted sheet, and the values that reading it gave
-pub record ReadyForWeights (s : List ℕ) (values : Sheet) : Type 0 where
+pub record WasRead (s : List ℕ) (values : Sheet) : Type 0 where
   pub accepted : sheetRefusal s ≡ Numbers.accepted
   pub values-read : values ≡ sheetOf s
 
@@ -46,3 +41,7 @@ pub record ReadyForWeights (s : List ℕ) (values : Sheet) : Type 0 where
 unfoldable pub numberIn : Reading → ℕ
 numberIn (Accepted v) = Numbers.accepted
 numberIn (Refused r) = r
+
+-- a refused join
+abbrev pub refusedJoin : ℕ → Joined
+refusedJoin number = record { number = number; length = 0 }

@@ -1,21 +1,20 @@
 -- `joining::write::put_fields` meets its contract. The loop's invariant: the fields of the values passed are stored. The measure is what is left of the values.
 -- Assumes nothing.
-use Prim.Native.Nat.{_-_, _*_, _≤_}
+use Prim.Native.Nat.{_-_, _≤_}
 use mathlib.Core.Path.{_≡_, refl, _∙_}
 use native.Mathlib.Omega.{arith}
 use lib.ListN.{length, take}
-use lib.Seq.{sets, length-sets}
+use lib.Seq.{sets, length-sets, take-all}
 use Rattle.joining.specs.Form.{fields}
 use Rattle.joining.proofs.Stores.{fields-more}
-use borrow.Author.Needs.{needs}
 use Rattle.joining.proofs.write.put_fields.Statement.{statement}
 use Rattle.joining.proofs.write.put_fields.Tie as tie
 
 abbrev Inv-loop : tie.InvT-loop
-Inv-loop buffer₀ at values n j₀ buffer j = (j ≤ n) × (buffer ≡ sets buffer₀ at (fields (take j values)))
+Inv-loop buffer₀ at values j₀ buffer j = (j ≤ length values) × (buffer ≡ sets buffer₀ at (fields (take j values)))
 
 abbrev μ-loop : tie.MeasureT-loop
-μ-loop buffer₀ at values n j₀ buffer j = n - j
+μ-loop buffer₀ at values j₀ buffer j = length values - j
 
 loop-holds : tie.Need-loop-holds Inv-loop μ-loop
 unfolding fields
@@ -24,29 +23,27 @@ loop-holds c = (omega arith, refl)
 mul-put-field : tie.Need-mul-put-field Inv-loop μ-loop
 mul-put-field c =
     let pre = c .before .before .before .before .before .pre in
-    omega (arith, pre .room)
+    omega (arith, pre)
 
 add-put-field : tie.Need-add-put-field Inv-loop μ-loop
 add-put-field c =
     let pre = c .before .before .before .before .before .pre in
-    omega (arith, pre .room)
+    omega (arith, pre)
 
 mul-put-field-2 : tie.Need-mul-put-field-2 Inv-loop μ-loop
 mul-put-field-2 c =
     let pre = c .before .before .before .before .before .pre in
-    omega (arith, pre .room)
+    omega (arith, pre)
 
 shared-slice-read-put-field : tie.Need-shared-slice-read-put-field Inv-loop μ-loop
-shared-slice-read-put-field c =
-    let pre = c .before .before .before .before .before .before .pre in
-    omega (arith, pre .held)
+shared-slice-read-put-field c = omega arith
 
 put-field-requires : tie.Need-put-field-requires Inv-loop μ-loop
 put-field-requires c κs =
     let args = c .before .before .before .before .before .before .args in
     let pre = c .before .before .before .before .before .before .pre in
     let loop = c .before .before .before .loop in
-    rw (loop .inv .1, length-sets (args .buffer .now) (args .at) (fields (take (loop .j) (args .values .now)))) (omega (arith, pre .room))
+    rw (loop .inv .1, length-sets (args .buffer .now) (args .at) (fields (take (loop .j) (args .values .now)))) (omega (arith, pre))
 
 add-j : tie.Need-add-j Inv-loop μ-loop
 add-j c = omega arith
@@ -57,12 +54,11 @@ loop-less c = omega arith
 loop-again : tie.Need-loop-again Inv-loop μ-loop
 loop-again c =
     let args = c .before .before .before .before .before .before .before .before .before .args in
-    let pre = c .before .before .before .before .before .before .before .before .before .pre in
     let loop = c .before .before .before .before .before .before .loop in
     let put-field = c .before .before .put-field in (
       omega arith,
       put-field .ensures
-          ∙ rw (loop .inv .1) (fields-more (args .values .now) (args .buffer .now) (args .at) (loop .j) (omega (arith, pre .held))),
+          ∙ rw (loop .inv .1) (fields-more (args .values .now) (args .buffer .now) (args .at) (loop .j) (omega arith)),
     )
 
 same-length : tie.Need-same-length Inv-loop μ-loop
@@ -75,7 +71,8 @@ returns : tie.Need-returns Inv-loop μ-loop
 returns c =
     let args = c .before .before .before .before .args in
     let loop = c .before .loop in
-    let e : loop .j ≡ args .n = omega arith in rw (← e) (loop .inv .1)
+    let e : length (args .values .now) ≤ loop .j = omega arith in
+    rw (take-all (loop .j) (args .values .now) e) at (loop .inv .1)
 
 pub put-fields-spec : {M : Type 1} → statement M
 put-fields-spec =

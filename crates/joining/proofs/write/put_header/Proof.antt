@@ -1,5 +1,5 @@
 -- `joining::write::put_header` meets its contract. Four bytes, then the two pairs as fields. Assumes nothing.
-use mathlib.Core.Path.{refl}
+use mathlib.Core.Path.{refl, _∙_}
 use native.Mathlib.Omega.{arith}
 use lib.ListN.{length-set}
 use lib.Seq.{length-sets}
@@ -43,14 +43,11 @@ cast-t10 c = search needs
 cast-t11 : tie.Need-cast-t11
 cast-t11 c = search needs
 
-mul-t12 : tie.Need-mul-t12
-mul-t12 c = search needs
+weights-length-requires : tie.Need-weights-length-requires
+weights-length-requires c κs = search needs
 
-add-t13 : tie.Need-add-t13
-add-t13 c = search needs
-
-cast-t14 : tie.Need-cast-t14
-cast-t14 c = search needs
+cast-t13 : tie.Need-cast-t13
+cast-t13 c = search needs
 
 slice-aggregate-put-fields : tie.Need-slice-aggregate-put-fields
 slice-aggregate-put-fields c = search needs
@@ -64,7 +61,10 @@ same-length c =
     rw (put-fields .ensures, length-sets, length-set, length-set, length-set, length-set) refl
 
 returns : tie.Need-returns
-returns c = search needs
+returns c =
+    let weights-length = c .before .before .before .before .before .weights-length in
+    let put-fields = c .before .before .put-fields in
+    put-fields .ensures ∙ rw (weights-length .ensures) refl
 
 pub put-header-spec : {M : Type 1} → statement M
 put-header-spec =
@@ -80,9 +80,8 @@ put-header-spec =
     cast-t9
     cast-t10
     cast-t11
-    mul-t12
-    add-t13
-    cast-t14
+    weights-length-requires
+    cast-t13
     slice-aggregate-put-fields
     put-fields-requires
     same-length

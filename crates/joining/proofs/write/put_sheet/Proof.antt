@@ -27,7 +27,7 @@ returns c =
     let put-platform = c .before .before .before .before .before .before .put-platform in
     let put-weights = c .before .before .put-weights in
     put-weights .ensures
-    ∙ rw (put-platform .ensures, put-header .ensures) (sheet-stored (start .args .a) (start .args .b) (start .pre .pair) (start .args .buffer .now) (start .pre .room))
+    ∙ rw (put-platform .ensures, put-header .ensures) (sheet-stored (start .args .a) (start .args .b) (start .pre .both) (start .args .buffer .now) (start .pre .room))
 
 pub put-sheet-spec : {M : Type 1} → statement M
 put-sheet-spec =

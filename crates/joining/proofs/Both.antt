@@ -2,8 +2,7 @@
 use Prim.Native.Nat.{ℕ, _+_, _≤_, _<_}
 use mathlib.Core.Path.{_≡_, refl, sym, _∙_, ap}
 use mathlib.Core.Bool.{Bool, true, false, not}
-use mathlib.Core.List.{List, [], _∷_}
-use native.Mathlib.Omega.{arith}
+use mathlib.Core.List.{[], _∷_}
 use borrow.Author.Tests.{lt-ltb, le-ltb, ltb-false, not-false}
 use lib.ListN.{length}
 use Rattle.units.specs.Limits.{costLimit}
@@ -14,21 +13,21 @@ use Rattle.job.specs.Job.{taskLimit, total}
 use Rattle.job.specs.declared.Job.{Job}
 use Rattle.sheet.specs.Layout.{weightsLength}
 use Rattle.joining.specs.Form.{weightsStart}
-use Rattle.joining.specs.Join.{samePlatform, tooMany, tooHeavy, tooShort, joinedSheet, pairConditions}
-use Rattle.joining.specs.Working.Ready.{Pair}
+use Rattle.joining.specs.Join.{samePlatform, tooMany, tooHeavy, tooShort, joinedSheet, bothConditions}
+use Rattle.joining.specs.Working.Ready.{Both}
 use Rattle.joining.proofs.Sheets.{length-sheet}
 
 -- what passing 26, 3, 7 and 11 means
-pub record PairPassed (a b : Job) (room : ℕ) : Type 0 where
+pub record BothPassed (a b : Job) (room : ℕ) : Type 0 where
   pub one-platform : samePlatform (a .platform) (b .platform) ≡ true
   pub few : a .tasks + b .tasks ≤ taskLimit
   pub light : total (a .weights) (a .tasks) + total (b .weights) (b .tasks) ≤ costLimit
   pub holds : length (joinedSheet a b) ≤ room
 
-pub pair-passed : (a b : Job) (room : ℕ) → first (pairConditions a b room) ≡ 0 → PairPassed a b room
+pub both-passed : (a b : Job) (room : ℕ) → first (bothConditions a b room) ≡ 0 → BothPassed a b room
 unfolding has distinct tooMany tooHeavy tooShort
-pair-passed a b room e =
-    let clear = first-clear (pairConditions a b room) refl e in
+both-passed a b room e =
+    let clear = first-clear (bothConditions a b room) refl e in
     record {
       one-platform = not-false (samePlatform (a .platform) (b .platform)) (clear 0);
       few = ltb-false taskLimit (a .tasks + b .tasks) (clear 1);
@@ -37,45 +36,45 @@ pair-passed a b room e =
     }
 
 module _ (a b : Job) (room : ℕ) {same : Bool} (e : same ≡ samePlatform (a .platform) (b .platform)) where
-  pub pair-other : not same ≡ true → Numbers.otherPlatform ≡ first (pairConditions a b room)
-  pair-other h = refused-here Numbers.otherPlatform _ (ap not e) h
+  pub both-other : not same ≡ true → Numbers.otherPlatform ≡ first (bothConditions a b room)
+  both-other h = refused-here Numbers.otherPlatform _ (ap not e) h
 
   module _ (h : not same ≡ false) where
     -- one platform: the other three decide
     one-platform : {k : ℕ} → k ≡ first (refusal Numbers.badCount (tooMany a b)
-        ∷ refusal Numbers.badValue (tooHeavy a b) ∷ refusal Numbers.shortBuffer (tooShort a b room) ∷ []) → k ≡ first (pairConditions a b room)
+        ∷ refusal Numbers.badValue (tooHeavy a b) ∷ refusal Numbers.shortBuffer (tooShort a b room) ∷ []) → k ≡ first (bothConditions a b room)
     one-platform q = refused-later Numbers.otherPlatform _ (ap not e) h q
 
-    pub pair-many : taskLimit < a .tasks + b .tasks → Numbers.badCount ≡ first (pairConditions a b room)
+    pub both-many : taskLimit < a .tasks + b .tasks → Numbers.badCount ≡ first (bothConditions a b room)
     unfolding tooMany
-    pair-many many = one-platform (refused-here Numbers.badCount _ (sym (lt-ltb taskLimit (a .tasks + b .tasks) many)) refl)
+    both-many many = one-platform (refused-here Numbers.badCount _ (sym (lt-ltb taskLimit (a .tasks + b .tasks) many)) refl)
 
     module _ (few : a .tasks + b .tasks ≤ taskLimit) {sum : ℕ} (s : sum ≡ total (a .weights) (a .tasks) + total (b .weights) (b .tasks)) where
       few-tasks : {k : ℕ} → k ≡ first (refusal Numbers.badValue (tooHeavy a b) ∷ refusal Numbers.shortBuffer (tooShort a b room) ∷ [])
-          → k ≡ first (pairConditions a b room)
+          → k ≡ first (bothConditions a b room)
       unfolding tooMany
       few-tasks q = one-platform (refused-later Numbers.badCount _ (sym (le-ltb taskLimit (a .tasks + b .tasks) few)) refl q)
 
-      pub pair-heavy : costLimit < sum → Numbers.badValue ≡ first (pairConditions a b room)
+      pub both-heavy : costLimit < sum → Numbers.badValue ≡ first (bothConditions a b room)
       unfolding tooHeavy
-      pair-heavy heavy = few-tasks (refused-here Numbers.badValue _ (sym (lt-ltb costLimit _ (rw s at heavy))) refl)
+      both-heavy heavy = few-tasks (refused-here Numbers.badValue _ (sym (lt-ltb costLimit _ (rw s at heavy))) refl)
 
       module _ (light : sum ≤ costLimit) {size : ℕ} (l : size ≡ length (joinedSheet a b)) where
-        light-total : {k : ℕ} → k ≡ first (refusal Numbers.shortBuffer (tooShort a b room) ∷ []) → k ≡ first (pairConditions a b room)
+        light-total : {k : ℕ} → k ≡ first (refusal Numbers.shortBuffer (tooShort a b room) ∷ []) → k ≡ first (bothConditions a b room)
         unfolding tooHeavy
         light-total q = few-tasks (refused-later Numbers.badValue _ (sym (le-ltb costLimit _ (rw s at light))) refl q)
 
-        pub pair-short : room < size → Numbers.shortBuffer ≡ first (pairConditions a b room)
+        pub both-short : room < size → Numbers.shortBuffer ≡ first (bothConditions a b room)
         unfolding tooShort
-        pair-short short = light-total (refused-here Numbers.shortBuffer _ (sym (lt-ltb room _ (rw l at short))) refl)
+        both-short short = light-total (refused-here Numbers.shortBuffer _ (sym (lt-ltb room _ (rw l at short))) refl)
 
-        pub pair-joined : size ≤ room → 0 ≡ first (pairConditions a b room)
+        pub both-joined : size ≤ room → 0 ≡ first (bothConditions a b room)
         unfolding tooShort
-        pair-joined held = light-total (refused-later Numbers.shortBuffer _ (sym (le-ltb room _ (rw l at held))) refl refused-none)
+        both-joined held = light-total (refused-later Numbers.shortBuffer _ (sym (le-ltb room _ (rw l at held))) refl refused-none)
 
 -- the sum of two totals, and the length of the sheet, as they were worked out
 pub total-taken : {x y p q : ℕ} → x ≡ p → y ≡ q → x + y ≡ p + q
 total-taken e f = rw (e, f) refl
 
-pub length-taken : (a b : Job) → Pair a b → {size : ℕ} → size ≡ weightsStart + weightsLength (a .tasks + b .tasks) → size ≡ length (joinedSheet a b)
-length-taken a b pair e = e ∙ sym (length-sheet a b pair)
+pub length-taken : (a b : Job) → Both a b → {size : ℕ} → size ≡ weightsStart + weightsLength (a .tasks + b .tasks) → size ≡ length (joinedSheet a b)
+length-taken a b both e = e ∙ sym (length-sheet a b both)
