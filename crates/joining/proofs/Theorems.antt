@@ -1,5 +1,6 @@
--- What a caller may conclude of an accepted join: the bytes written are a sheet, and reading it gives just the values of both. Assumes nothing.
-use Prim.Native.Nat.{ℕ, _+_, _≤_}
+-- What a caller may conclude of a join: the number decides; of an accepted one, the bytes written are a sheet, and reading it gives just the values of both.
+-- Assumes nothing.
+use Prim.Native.Nat.{ℕ, _+_, _≤_, _<_}
 use mathlib.Core.Path.{_≡_, refl, sym, _∙_, ap}
 use mathlib.Core.Bool.{false}
 use mathlib.Core.List.{List}
@@ -9,13 +10,14 @@ use borrow.Author.Tests.{le-ltb, ne-eqb, eq-eqb}
 use lib.ListN.{length, take, drop, length-append, length-drop}
 use lib.Seq.{take-append-seam}
 use Rattle.refusals.specs.Numbers
-use Rattle.refusals.proofs.Refusals.{first-goes-on, first-none}
+use Rattle.refusals.specs.Refusals.{Decides}
+use Rattle.refusals.proofs.Refusals.{first-goes-on, first-none, first-decides}
 use Rattle.job.specs.Job.{taskLimit}
 use Rattle.job.specs.Checks.{badCount}
 use Rattle.job.proofs.Ranges.{values-passed}
 use Rattle.sheet.specs.Reading.{jobOf, sheetConditions, sheetRefusal, readingOf}
 use Rattle.sheet.proofs.Readings.{sheet-numbered, sheet-layout, sheet-goes-on, sheet-sound}
-use Rattle.joining.specs.Join.{JoinReads, joinedWeights, joinedSheet, joinedJob, joinRefusal, Joins}
+use Rattle.joining.specs.Join.{JoinReads, joinedWeights, joinedSheet, joinedJob, joinConditions, joinRefusal, Joins}
 use Rattle.joining.specs.declared.Joined.{Joined}
 use Rattle.joining.proofs.Forms.{form-reads, platform-at, weights-at}
 use Rattle.joining.proofs.Sheets.{length-sheet}
@@ -70,8 +72,13 @@ module _ (s t : List ℕ) (room : ℕ) where
         form-reads (jobOf s .platform) (joinedWeights (jobOf s) (jobOf t)) counted (whole-passes (jobOf s) (jobOf t) joinable)
         ∙ rw length-joined refl
 
--- the buffer keeps its length, and the length that is given never passes it
 module _ (s t before after : List ℕ) (r : Joined) (joins : Joins s t before after r) where
+  -- a number that is given is that of the first condition that holds, and it is given under no other
+  pub join-decides : 0 < r .number → Decides (joinConditions s t (length before)) (r .number)
+  unfolding joinRefusal
+  join-decides h = first-decides (r .number) (joinConditions s t (length before)) h (sym (joins .number))
+
+  -- the buffer keeps its length, and the length that is given never passes it
   refused-or-not : Dec (joinRefusal s t (length before) ≡ 0)
   refused-or-not = ℕ-discrete (joinRefusal s t (length before)) 0
 
