@@ -4,7 +4,7 @@ use mathlib.Core.Path.{_≡_, refl, sym, _∙_}
 use mathlib.Core.List.{List, _++_}
 use native.Mathlib.Omega.{arith}
 use borrow.Author.Tests.{ne-eqb}
-use lib.ListN.{length, drop}
+use lib.ListN.{length}
 use Rattle.refusals.specs.Refusals.{first}
 use Rattle.refusals.proofs.Refusals.{first-stands, first-goes-on}
 use Rattle.sheet.specs.Reading.{Says, Reads, jobOf, sheetConditions, sheetRefusal}
@@ -12,6 +12,7 @@ use Rattle.sheet.specs.declared.Sheet.{Sheet}
 use Rattle.sheet.specs.declared.Reading.{Reading}
 use Rattle.sheet.specs.declared.Reading.the-variants.{Accepted, Refused}
 use Rattle.sheet.proofs.Readings.{sheet-numbered}
+use Rattle.writing.specs.Form.{written}
 use Rattle.joining.specs.Join.{bothConditions, joinRefusal, Writes}
 use Rattle.joining.specs.Working.Ready.{WasRead, numberIn, refusedJoin}
 
@@ -22,7 +23,7 @@ writes-refused {number} {refusal} sheet before e h =
     record { number = e; size = rw (← e, ne-eqb number 0 h) refl; buffer = rw (← e, ne-eqb number 0 h) refl }
 
 -- accepted: the sheet at the front of the buffer, and its length
-pub writes-sheet : {refusal size : ℕ} (sheet before after : List ℕ) → 0 ≡ refusal → size ≡ length sheet → after ≡ sheet ++ drop (length sheet) before
+pub writes-sheet : {refusal size : ℕ} (sheet before after : List ℕ) → 0 ≡ refusal → size ≡ length sheet → after ≡ written sheet before
     → Writes refusal sheet before after (record { number = 0; length = size })
 writes-sheet sheet before after e l w = record { number = e; size = rw (← e) l; buffer = rw (← e) w }
 

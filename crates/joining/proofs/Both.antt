@@ -12,10 +12,10 @@ use Rattle.refusals.proofs.Refusals.{first-clear, refused-here, refused-later, 
 use Rattle.job.specs.Job.{taskLimit, total}
 use Rattle.job.specs.declared.Job.{Job}
 use Rattle.sheet.specs.Layout.{weightsLength}
-use Rattle.joining.specs.Form.{weightsStart}
+use Rattle.writing.specs.Form.{weightsStart}
 use Rattle.joining.specs.Join.{samePlatform, tooMany, tooHeavy, tooShort, joinedSheet, bothConditions}
 use Rattle.joining.specs.Working.Ready.{Both}
-use Rattle.joining.proofs.Sheets.{length-sheet}
+use Rattle.joining.proofs.Values.{length-sheet}
 
 -- what passing 26, 3, 7 and 11 means
 pub record BothPassed (a b : Job) (room : ℕ) : Type 0 where

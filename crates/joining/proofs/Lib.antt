@@ -1,9 +1,5 @@
--- The laws of written sheets, and what a caller may conclude from a join.
-pub mod Fields
-pub mod Forms
+-- The laws of joined sheets, and what a caller may conclude from a join.
 pub mod Values
-pub mod Stores
-pub mod Sheets
 pub mod Parts
 pub mod Both
 pub mod Answers

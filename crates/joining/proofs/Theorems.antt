@@ -17,13 +17,12 @@ use Rattle.job.specs.Checks.{badCount}
 use Rattle.job.proofs.Ranges.{values-passed}
 use Rattle.sheet.specs.Reading.{jobOf, sheetConditions, sheetRefusal, readingOf}
 use Rattle.sheet.proofs.Readings.{sheet-numbered, sheet-layout, sheet-goes-on, sheet-sound}
+use Rattle.writing.proofs.Forms.{form-reads, platform-at, weights-at}
 use Rattle.joining.specs.Join.{JoinReads, joinedWeights, joinedSheet, joinedJob, joinConditions, joinRefusal, Joins}
 use Rattle.joining.specs.declared.Joined.{Joined}
-use Rattle.joining.proofs.Forms.{form-reads, platform-at, weights-at}
-use Rattle.joining.proofs.Sheets.{length-sheet}
 use Rattle.joining.proofs.Parts.{both-accepted}
 use Rattle.joining.proofs.Both.{BothPassed, both-passed}
-use Rattle.joining.proofs.Values.{same-platform, joined-length, Joinable, whole-passes}
+use Rattle.joining.proofs.Values.{same-platform, joined-length, length-sheet, Joinable, whole-passes}
 
 -- what passing every check of a join means
 pub record JoinPassed (s t : List ℕ) (room : ℕ) : Type 0 where

@@ -19,9 +19,11 @@ use Rattle.job.specs.declared.Platform.{Platform}
 use Rattle.job.specs.declared.Job.{Job}
 use Rattle.job.proofs.Ranges.{ValuesPassed, value-passes}
 use Rattle.job.proofs.Weights.{total-more}
-use Rattle.joining.specs.Join.{taskWeights, joinedWeights, samePlatform}
+use Rattle.sheet.specs.Layout.{weightsLength}
+use Rattle.writing.specs.Form.{weightsStart}
+use Rattle.writing.proofs.Forms.{formJob, form-length}
+use Rattle.joining.specs.Join.{taskWeights, joinedWeights, joinedSheet, samePlatform}
 use Rattle.joining.specs.Working.Ready.{Both}
-use Rattle.joining.proofs.Forms.{formJob}
 
 -- totals of weights that are the same
 total-same : (v w : List ℕ) (n : ℕ) → ((j : ℕ) → j < n → weightAt v j ≡ weightAt w j) → total v n ≡ total w n
@@ -150,3 +152,10 @@ module _ (a b : Job) (joinable : Joinable a b) where
   pub whole-passes : first (jobConditions whole) ≡ 0
   unfolding first
   whole-passes = rw (whole-value, whole-task) refl
+
+-- how long the joined sheet is
+pub length-sheet : (a b : Job) → Both a b → length (joinedSheet a b) ≡ weightsStart + weightsLength (a .tasks + b .tasks)
+unfolding joinedSheet
+length-sheet a b both =
+    let tasks = joined-length a b (both .held-first) (both .held-second) in
+    omega (arith, form-length (a .platform) (joinedWeights a b), tasks)

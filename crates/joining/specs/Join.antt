@@ -4,7 +4,7 @@ use mathlib.Core.Path.{_≡_}
 use mathlib.Core.Bool.{Bool, cond, not, _&&_}
 use mathlib.Core.List.{List, [], _∷_, _++_}
 use lib.Dec.{ltb, eqb}
-use lib.ListN.{length, take, drop}
+use lib.ListN.{length, take}
 use Rattle.units.specs.Limits.{costLimit}
 use Rattle.lists.specs.Lists.{tabulate}
 use Rattle.refusals.specs.Numbers
@@ -14,7 +14,7 @@ use Rattle.job.specs.declared.Platform.{Platform}
 use Rattle.job.specs.declared.Job.{Job}
 use Rattle.sheet.specs.Layout.{platformKind, weightsKind, weightsLength, offset, indexOf}
 use Rattle.sheet.specs.Reading.{jobOf, sheetConditions, sheetRefusal, readingOf}
-use Rattle.joining.specs.Form.{platformStart, weightsStart, formOne}
+use Rattle.writing.specs.Form.{platformStart, weightsStart, formOne, written}
 use Rattle.joining.specs.declared.Joined.{Joined}
 
 -- the weights of a sheet's tasks, in order
@@ -80,7 +80,7 @@ joinRefusal s t room = first (joinConditions s t room)
 pub record Writes (decided : ℕ) (sheet before after : List ℕ) (r : Joined) : Type 0 where
   pub number : r .number ≡ decided
   pub size : r .length ≡ cond (eqb decided Numbers.accepted) (length sheet) 0
-  pub buffer : after ≡ cond (eqb decided Numbers.accepted) (sheet ++ drop (length sheet) before) before
+  pub buffer : after ≡ cond (eqb decided Numbers.accepted) (written sheet before) before
 
 -- the answer to the sheets s and t, with the lent buffer before and after
 abbrev pub Joins : (s t before after : List ℕ) → Joined → Type 0

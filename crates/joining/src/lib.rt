@@ -20,12 +20,9 @@ use sheet::Reading;
 use sheet::Sheet;
 use sheet::read::read;
 use sheet::read::weights_of;
-
-mod write;
-
-use write::put_sheet;
-use write::sheet_length;
-use write::weights_length;
+use writing::put_sheet;
+use writing::sheet_length;
+use writing::weights_length;
 
 // The answer of a join: 0 and how many bytes of the buffer are the sheet, or the number of its refusal and 0.
 #[repr(C)]
@@ -100,10 +97,14 @@ fn join_jobs(a: Job, b: Job, buffer: &mut [u8]) -> Joined
     if number != 0 {
         return refused(number);
     }
-    put_sheet(buffer, a, b);
+    let early = a.weights;
+    let late = b.weights;
+    let n = a.tasks;
+    let m = b.tasks;
+    put_sheet(buffer, a.platform, &early[..n], &late[..m]);
     Joined {
         number: ACCEPTED,
-        length: sheet_length(a.tasks + b.tasks),
+        length: sheet_length(n + m),
     }
 }
 

@@ -1,16 +1,14 @@
-// Writing a sheet in form 1 to a lent buffer: a run of stores from each place on.
+// A sheet of form 1, written to a lent buffer: a run of stores from each place on.
 ghost use mathlib.Core.Path.{_≡_};
 ghost use mathlib.Core.List.{_++_};
 ghost use Prim.Native.Nat.{_+_, _*_, _≤_};
-ghost use lib.ListN.{length, drop};
+ghost use lib.ListN.{length};
 ghost use lib.Seq.{sets};
 ghost use Rattle.job.specs.Job.{taskLimit};
 ghost use Rattle.sheet.specs.Bytes.{fieldLength};
 ghost use Rattle.sheet.specs.Layout.{platformLength, weightsLength};
-ghost use Rattle.joining.specs.Form.{fieldBytes, fields, platformStart, weightsStart, header, platformSection, weightsSection};
-ghost use Rattle.joining.specs.Join.{joinedWeights, joinedSheet};
-ghost use Rattle.joining.specs.Working.Ready.{ReadyForHeader, ReadyForSheet};
-use job::Job;
+ghost use Rattle.writing.specs.Form.{fieldBytes, fields, platformStart, weightsStart, header, platformSection, weightsSection, formOne, written};
+ghost use Rattle.writing.specs.Working.Ready.{ReadyForHeader, ReadyForSheet};
 use job::Platform;
 use sheet::PLATFORM_KIND;
 use sheet::WEIGHTS_KIND;
@@ -89,27 +87,22 @@ fn put_platform(buffer: &mut [u8], p: Platform)
     put_fields(buffer, PLATFORM_START + 1, &values[..]);
 }
 
-// The first sheet's weights, then the second's.
-fn put_weights(buffer: &mut [u8], a: Job, b: Job)
-    requires { ⌜ ReadyForSheet a b (now buffer) ⌝ }
-    ensures { λ _. ⌜ now (buffer .exit) ≡ sets (now (buffer .entry)) weightsStart (weightsSection (joinedWeights a b)) ⌝ }
+fn put_weights(buffer: &mut [u8], early: &[u32], late: &[u32])
+    requires { ⌜ ReadyForSheet (now early) (now late) (now buffer) ⌝ }
+    ensures { λ _. ⌜ now (buffer .exit) ≡ sets (now (buffer .entry)) weightsStart (weightsSection (now (early .entry) ++ now (late .entry))) ⌝ }
 {
     buffer[WEIGHTS_START] = WEIGHTS_KIND as u8;
-    let early = a.weights;
-    let late = b.weights;
-    let n = a.tasks;
-    let m = b.tasks;
     let start = WEIGHTS_START + 1;
-    put_fields(buffer, start, &early[..n]);
-    put_fields(buffer, start + FIELD_LENGTH * n, &late[..m]);
+    put_fields(buffer, start, early);
+    put_fields(buffer, start + FIELD_LENGTH * early.len(), late);
 }
 
-// The joined sheet of two jobs, at the front of the buffer, and nothing else.
-pub fn put_sheet(buffer: &mut [u8], a: Job, b: Job)
-    requires { ⌜ ReadyForSheet a b (now buffer) ⌝ }
-    ensures { λ _. ⌜ now (buffer .exit) ≡ joinedSheet a b ++ drop (length (joinedSheet a b)) (now (buffer .entry)) ⌝ }
+// The sheet of a platform and of two lists of weights, one after the other, at the front of the buffer, and nothing else.
+pub fn put_sheet(buffer: &mut [u8], p: Platform, early: &[u32], late: &[u32])
+    requires { ⌜ ReadyForSheet (now early) (now late) (now buffer) ⌝ }
+    ensures { λ _. ⌜ now (buffer .exit) ≡ written (formOne p (now (early .entry) ++ now (late .entry))) (now (buffer .entry)) ⌝ }
 {
-    put_header(buffer, a.tasks + b.tasks);
-    put_platform(buffer, a.platform);
-    put_weights(buffer, a, b);
+    put_header(buffer, early.len() + late.len());
+    put_platform(buffer, p);
+    put_weights(buffer, early, late);
 }

@@ -1,9 +1,9 @@
--- `joining::write::put_sheet` meets its contract. The three parts of form 1, one after the other. Assumes nothing.
+-- `writing::put_sheet` meets its contract. The three parts of form 1, one after the other. Assumes nothing.
 use mathlib.Core.Path.{_∙_}
-use Rattle.joining.proofs.Sheets.{sheet-stored}
+use Rattle.writing.proofs.Stores.{sheet-stored}
 use borrow.Author.Needs.{needs}
-use Rattle.joining.proofs.write.put_sheet.Statement.{statement}
-use Rattle.joining.proofs.write.put_sheet.Tie as tie
+use Rattle.writing.proofs.put_sheet.Statement.{statement}
+use Rattle.writing.proofs.put_sheet.Tie as tie
 
 add-put-header : tie.Need-add-put-header
 add-put-header c = search needs
@@ -27,7 +27,8 @@ returns c =
     let put-platform = c .before .before .before .before .before .before .put-platform in
     let put-weights = c .before .before .put-weights in
     put-weights .ensures
-    ∙ rw (put-platform .ensures, put-header .ensures) (sheet-stored (start .args .a) (start .args .b) (start .pre .both) (start .args .buffer .now) (start .pre .room))
+    ∙ rw (put-platform .ensures, put-header .ensures)
+    (sheet-stored (start .args .p) (start .args .early .now) (start .args .late .now) (start .args .buffer .now) (start .pre .room))
 
 pub put-sheet-spec : {M : Type 1} → statement M
 put-sheet-spec =

@@ -1,10 +1,10 @@
--- `joining::write::put_field` meets its contract. Four stores, lowest byte first. Assumes nothing.
+-- `writing::put_field` meets its contract. Four stores, lowest byte first. Assumes nothing.
 use native.Mathlib.Omega.{arith}
 use lib.ListN.{length-set}
-use Rattle.joining.proofs.Stores.{field-stored}
+use Rattle.writing.proofs.Stores.{field-stored}
 use borrow.Author.Needs.{needs}
-use Rattle.joining.proofs.write.put_field.Statement.{statement}
-use Rattle.joining.proofs.write.put_field.Tie as tie
+use Rattle.writing.proofs.put_field.Statement.{statement}
+use Rattle.writing.proofs.put_field.Tie as tie
 
 cast-buffer : tie.Need-cast-buffer
 cast-buffer c = search needs

@@ -1,11 +1,11 @@
--- `joining::write::put_header` meets its contract. Four bytes, then the two pairs as fields. Assumes nothing.
+-- `writing::put_header` meets its contract. Four bytes, then the two pairs as fields. Assumes nothing.
 use mathlib.Core.Path.{refl, _∙_}
 use native.Mathlib.Omega.{arith}
 use lib.ListN.{length-set}
 use lib.Seq.{length-sets}
 use borrow.Author.Needs.{needs}
-use Rattle.joining.proofs.write.put_header.Statement.{statement}
-use Rattle.joining.proofs.write.put_header.Tie as tie
+use Rattle.writing.proofs.put_header.Statement.{statement}
+use Rattle.writing.proofs.put_header.Tie as tie
 
 cast-buffer : tie.Need-cast-buffer
 cast-buffer c = search needs

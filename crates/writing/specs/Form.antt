@@ -1,7 +1,7 @@
 -- A sheet as it is written: the bytes of form 1 for a platform and a list of weights.
 use Prim.Native.Nat.{ℕ, _/_, _%_, _^_}
 use mathlib.Core.List.{List, [], _∷_, _++_}
-use lib.ListN.{length}
+use lib.ListN.{length, drop}
 use Rattle.job.specs.declared.Platform.{Platform}
 use Rattle.sheet.specs.Layout.{form, sections, platformKind, weightsKind, platformLength, weightsLength}
 
@@ -38,3 +38,7 @@ weightsSection weights = weightsKind ∷ fields weights
 -- the sheet of form 1, with no gaps
 unfoldable pub formOne : Platform → (weights : List ℕ) → List ℕ
 formOne p weights = header (length weights) ++ (platformSection p ++ weightsSection weights)
+
+-- a buffer in which a sheet is written: its first bytes are the sheet's, as many as it has, and the others are as they were
+abbrev pub written : (sheet buffer : List ℕ) → List ℕ
+written sheet buffer = sheet ++ drop (length sheet) buffer

@@ -43,8 +43,8 @@ use Rattle.sheet.specs.Layout.{
 }
 use Rattle.sheet.specs.Reading.{sectionField, platformOf, weightsOf, jobOf, readingOf}
 use Rattle.sheet.proofs.Readings.{sheet-goes-on, reading-accepted}
-use Rattle.joining.specs.Form.{fieldBytes, fields, platformStart, weightsStart, platformFields, platformSection, weightsSection, formOne}
-use Rattle.joining.proofs.Fields.{field-read, length-fields, field-after, fields-read}
+use Rattle.writing.specs.Form.{fieldBytes, fields, platformStart, weightsStart, platformFields, platformSection, weightsSection, formOne}
+use Rattle.writing.proofs.Fields.{field-read, length-fields, field-after, fields-read}
 
 module _ (p : Platform) (w : List ℕ) where
   platform-offset : offset (formOne p w) 0 ≡ platformStart

@@ -6,7 +6,7 @@ use native.Mathlib.Omega.{arith}
 use lib.ListN.{length, getD}
 use lib.Seq.{getD-append-add}
 use Rattle.sheet.specs.Bytes.{byteAt, fieldAt, fieldLength}
-use Rattle.joining.specs.Form.{fieldBytes, fields}
+use Rattle.writing.specs.Form.{fieldBytes, fields}
 
 -- a field that is written first is the field that is read at 0
 pub field-read : (x : ℕ) (l : List ℕ) → fieldAt (fieldBytes x ++ l) 0 ≡ x

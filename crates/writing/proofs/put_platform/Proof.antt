@@ -1,10 +1,10 @@
--- `joining::write::put_platform` meets its contract. The kind, then the seven fields. Assumes nothing.
+-- `writing::put_platform` meets its contract. The kind, then the seven fields. Assumes nothing.
 use mathlib.Core.Path.{refl}
 use lib.ListN.{length-set}
 use lib.Seq.{length-sets}
 use borrow.Author.Needs.{needs}
-use Rattle.joining.proofs.write.put_platform.Statement.{statement}
-use Rattle.joining.proofs.write.put_platform.Tie as tie
+use Rattle.writing.proofs.put_platform.Statement.{statement}
+use Rattle.writing.proofs.put_platform.Tie as tie
 
 cast-buffer : tie.Need-cast-buffer
 cast-buffer c = search needs

@@ -1,14 +1,14 @@
--- `joining::write::put_fields` meets its contract. The loop's invariant: the fields of the values passed are stored. The measure is what is left of the values.
+-- `writing::put_fields` meets its contract. The loop's invariant: the fields of the values passed are stored. The measure is what is left of the values.
 -- Assumes nothing.
 use Prim.Native.Nat.{_-_, _≤_}
 use mathlib.Core.Path.{_≡_, refl, _∙_}
 use native.Mathlib.Omega.{arith}
 use lib.ListN.{length, take}
 use lib.Seq.{sets, length-sets, take-all}
-use Rattle.joining.specs.Form.{fields}
-use Rattle.joining.proofs.Stores.{fields-more}
-use Rattle.joining.proofs.write.put_fields.Statement.{statement}
-use Rattle.joining.proofs.write.put_fields.Tie as tie
+use Rattle.writing.specs.Form.{fields}
+use Rattle.writing.proofs.Stores.{fields-more}
+use Rattle.writing.proofs.put_fields.Statement.{statement}
+use Rattle.writing.proofs.put_fields.Tie as tie
 
 abbrev Inv-loop : tie.InvT-loop
 Inv-loop buffer₀ at values j₀ buffer j = (j ≤ length values) × (buffer ≡ sets buffer₀ at (fields (take j values)))

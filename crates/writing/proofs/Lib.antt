@@ -1,0 +1,4 @@
+-- The laws of written sheets that the crates above cite.
+pub mod Fields
+pub mod Forms
+pub mod Stores
