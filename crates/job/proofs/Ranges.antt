@@ -40,13 +40,16 @@ module _ (job : Job) (value : badValue job ≡ false) where
   unfolding badValue
   weights-right = or-fails (badCost (job .platform)) _ value .1
 
+  pub weight-right : (j : ℕ) → j < job .tasks → badWeight (job .weights) j ≡ false
+  weight-right = some-fails (job .tasks) (badWeight (job .weights)) (or-fails _ _ weights-right .0)
+
   pub weight-ranges : (j : ℕ) → j < job .tasks → (0 < weightAt (job .weights) j) × (weightAt (job .weights) j ≤ costLimit)
-  weight-ranges j h = weight-range (job .weights) j (some-fails (job .tasks) _ (or-fails _ _ weights-right .0) j h)
+  weight-ranges j h = weight-range (job .weights) j (weight-right j h)
 
   total-range : total (job .weights) (job .tasks) ≤ costLimit
   total-range = ltb-false costLimit _ (or-fails (some (job .tasks) (badWeight (job .weights))) _ weights-right .1)
 
-  costs-right : badCost (job .platform) ≡ false
+  pub costs-right : badCost (job .platform) ≡ false
   unfolding badValue
   costs-right = or-fails (badCost (job .platform)) _ value .0
 

@@ -11,13 +11,13 @@ use lib.ListN.{length, length-append, List·getD-append}
 use lib.Seq.{length-take-le, getD-take, getD-append-add}
 use Rattle.units.specs.Limits.{costLimit}
 use Rattle.lists.specs.Lists.{some}
-use Rattle.lists.proofs.Lists.{or-fails, and-holds, some-fails, some-none, getD-tabulate}
+use Rattle.lists.proofs.Lists.{and-holds, some-fails, some-none, getD-tabulate}
 use Rattle.refusals.specs.Refusals.{first}
 use Rattle.job.specs.Job.{taskLimit, weightAt, total, isAllowed}
-use Rattle.job.specs.Checks.{badCost, badWeight, badValue, badTask, jobConditions}
+use Rattle.job.specs.Checks.{badWeight, badValue, badTask, jobConditions}
 use Rattle.job.specs.declared.Platform.{Platform}
 use Rattle.job.specs.declared.Job.{Job}
-use Rattle.job.proofs.Ranges.{ValuesPassed, value-passes}
+use Rattle.job.proofs.Ranges.{ValuesPassed, value-passes, costs-right, weight-right}
 use Rattle.job.proofs.Weights.{total-more}
 use Rattle.sheet.specs.Layout.{weightsLength}
 use Rattle.writing.specs.Form.{weightsStart}
@@ -88,19 +88,10 @@ module _ (a b : Job) (held-a : a .tasks ≤ length (a .weights)) (held-b : b .ta
       let e : a .tasks + suc n ≡ a .tasks + n + 1 = omega arith in
       rw (e, total-more (joinedWeights a b) (a .tasks + n)) (omega (arith, total-split n (omega arith), weight-second n (omega arith)))
 
--- what checks 7 and 8 leave, weight by weight
-module _ (job : Job) (passed : ValuesPassed job) where
-  costs-right : badCost (job .platform) ≡ false
-  unfolding badValue
-  costs-right = or-fails (badCost (job .platform)) _ (passed .value) .0
-
-  weight-right : (j : ℕ) → j < job .tasks → badWeight (job .weights) j ≡ false
-  unfolding badValue
-  weight-right = some-fails (job .tasks) (badWeight (job .weights)) (or-fails _ _ (or-fails (badCost (job .platform)) _ (passed .value) .1) .0)
-
-  task-right : (j : ℕ) → j < job .tasks → not (isAllowed (job .platform) (weightAt (job .weights) j)) ≡ false
-  unfolding badTask
-  task-right = some-fails (job .tasks) _ (passed .task)
+-- what check 8 leaves of each task
+task-right : (job : Job) → badTask job ≡ false → (j : ℕ) → j < job .tasks → not (isAllowed (job .platform) (weightAt (job .weights) j)) ≡ false
+unfolding badTask
+task-right job e = some-fails (job .tasks) _ e
 
 -- both pass checks 7 and 8 and share their platform, and their total is in range: so does the joined chain
 pub record Joinable (a b : Job) : Type 0 where
@@ -129,7 +120,7 @@ module _ (a b : Job) (joinable : Joinable a b) where
   unfolding badWeight
   weights-right =
       some-none (a .tasks + b .tasks) (badWeight (whole .weights))
-      (whole-each (λ x. (eqb x 0 || ltb costLimit x) ≡ false) (weight-right a (joinable .passed-first)) (weight-right b (joinable .passed-second)))
+      (whole-each (λ x. (eqb x 0 || ltb costLimit x) ≡ false) (weight-right a (joinable .passed-first .value)) (weight-right b (joinable .passed-second .value)))
 
   whole-total : total (whole .weights) (a .tasks + b .tasks) ≡ total (a .weights) (a .tasks) + total (b .weights) (b .tasks)
   whole-total =
@@ -138,7 +129,7 @@ module _ (a b : Job) (joinable : Joinable a b) where
 
   whole-value : badValue whole ≡ false
   whole-value =
-      value-passes whole (costs-right a (joinable .passed-first))
+      value-passes whole (costs-right a (joinable .passed-first .value))
       (rw (whole-tasks, weights-right) (le-ltb costLimit (total (whole .weights) (a .tasks + b .tasks)) (omega (arith, whole-total, joinable .sum))))
 
   whole-task : badTask whole ≡ false
@@ -146,8 +137,8 @@ module _ (a b : Job) (joinable : Joinable a b) where
   whole-task =
       rw whole-tasks
       (some-none (a .tasks + b .tasks) _
-      (whole-each (λ x. not (isAllowed (a .platform) x) ≡ false) (task-right a (joinable .passed-first))
-      (rw (joinable .one-platform) (task-right b (joinable .passed-second)))))
+      (whole-each (λ x. not (isAllowed (a .platform) x) ≡ false) (task-right a (joinable .passed-first .task))
+      (rw (joinable .one-platform) (task-right b (joinable .passed-second .task)))))
 
   pub whole-passes : first (jobConditions whole) ≡ 0
   unfolding first

@@ -43,7 +43,8 @@ fn platform_of(part: &[u8]) -> Platform
     }
 }
 
-// The weights of a weights section of n tasks, and 0 past task n.
+// The weights of a weights section of n tasks, and 0 past task n. Reading and joining call this for a task count that has passed check 3, so that each weight
+// has its place in the array.
 pub fn weights_of(part: &[u8], n: usize) -> [u32; TASK_LIMIT]
     requires { ⌜ n ≤ taskLimit ⌝ }
     ensures { λ r. ⌜ r ≡ weightsOf (now (part .entry)) n ⌝ }

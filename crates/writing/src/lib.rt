@@ -1,4 +1,5 @@
-// A sheet of form 1, written to a lent buffer: a run of stores from each place on.
+// A sheet of form 1, written to a lent buffer: a run of stores from each place on. A join alone calls this, for two task counts that have passed check 3; it
+// writes once it knows that they are few enough together and that the buffer holds the sheet.
 ghost use mathlib.Core.Path.{_≡_};
 ghost use mathlib.Core.List.{_++_};
 ghost use Prim.Native.Nat.{_+_, _*_, _≤_};

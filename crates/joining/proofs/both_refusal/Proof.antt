@@ -25,27 +25,39 @@ sheet-length-requires c κs = search needs
 returns : tie.Need-returns
 returns c =
     let ready = c .before in
-    both-other _ _ _ (ready .before .before .before .before .before .before .before .is-same .ensures) (c .if1 .taken)
+    let is-same = ready .before .before .before .before .before .before .before .is-same in
+    both-other _ _ _ (is-same .ensures) (c .if1 .taken)
 
 returns-2 : tie.Need-returns-2
 returns-2 c =
     let ready = c .before .before in
-    both-many _ _ _ (ready .before .before .before .before .before .before .before .is-same .ensures) (c .before .if1 .left) (c .if2 .taken)
+    let is-same = ready .before .before .before .before .before .before .before .is-same in
+    both-many _ _ _ (is-same .ensures) (c .before .if1 .left) (c .if2 .taken)
 
 returns-3 : tie.Need-returns-3
 returns-3 c =
     let ready = c .before .before .before in
-    both-heavy _ _ _ (ready .before .before .before .before .before .before .before .is-same .ensures) (c .before .before .if1 .left) (c .before .if2 .left) (total-taken (ready .before .before .weight-to .ensures .0) (ready .before .weight-to2 .ensures .0)) (c .if3 .taken)
+    let is-same = ready .before .before .before .before .before .before .before .is-same in
+    let sum = total-taken (ready .before .before .weight-to .ensures .0) (ready .before .weight-to2 .ensures .0) in
+    both-heavy _ _ _ (is-same .ensures) (c .before .before .if1 .left) (c .before .if2 .left) sum (c .if3 .taken)
 
 returns-4 : tie.Need-returns-4
 returns-4 c =
     let ready = c .before .before .before .before in
-    both-short _ _ _ (ready .before .before .before .before .before .before .before .is-same .ensures) (c .before .before .before .if1 .left) (c .before .before .if2 .left) (total-taken (ready .before .before .weight-to .ensures .0) (ready .before .weight-to2 .ensures .0)) (c .before .if3 .left) (length-taken _ _ (ready .before .before .before .before .before .before .before .before .pre) (ready .sheet-length .ensures)) (c .if4 .taken)
+    let is-same = ready .before .before .before .before .before .before .before .is-same in
+    let sum = total-taken (ready .before .before .weight-to .ensures .0) (ready .before .weight-to2 .ensures .0) in
+    let pre = ready .before .before .before .before .before .before .before .before .pre in
+    let size = length-taken _ _ pre (ready .sheet-length .ensures) in
+    both-short _ _ _ (is-same .ensures) (c .before .before .before .if1 .left) (c .before .before .if2 .left) sum (c .before .if3 .left) size (c .if4 .taken)
 
 returns-5 : tie.Need-returns-5
 returns-5 c =
     let ready = c .before .before .before .before in
-    both-joined _ _ _ (ready .before .before .before .before .before .before .before .is-same .ensures) (c .before .before .before .if1 .left) (c .before .before .if2 .left) (total-taken (ready .before .before .weight-to .ensures .0) (ready .before .weight-to2 .ensures .0)) (c .before .if3 .left) (length-taken _ _ (ready .before .before .before .before .before .before .before .before .pre) (ready .sheet-length .ensures)) (c .if4 .left)
+    let is-same = ready .before .before .before .before .before .before .before .is-same in
+    let sum = total-taken (ready .before .before .weight-to .ensures .0) (ready .before .weight-to2 .ensures .0) in
+    let pre = ready .before .before .before .before .before .before .before .before .pre in
+    let size = length-taken _ _ pre (ready .sheet-length .ensures) in
+    both-joined _ _ _ (is-same .ensures) (c .before .before .before .if1 .left) (c .before .before .if2 .left) sum (c .before .if3 .left) size (c .if4 .left)
 
 pub both-refusal-spec : {M : Type 1} → statement M
 both-refusal-spec =
