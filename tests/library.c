@@ -8,6 +8,7 @@ static const uint8_t sheet[58] = {
     2, 0, 0, 2, 0, 0, 0, 2, 0,
 };
 static const uint8_t marks[2] = {2, 3};
+static const uint8_t disk_marks[2] = {3, 3};
 
 static void answer(const char *name, struct pulvanor_answer a) {
     printf("%s: number %llu, time %llu\n", name, (unsigned long long)a.number, (unsigned long long)a.time);
@@ -64,6 +65,7 @@ int main(void) {
     static const uint8_t stopped[15] = {1, 0, 0, 0, 0, 2, 0, 0, 0, 0, 4, 244, 1, 0, 0};
     struct pulvanor_outcome start = pulvanor_start(sheet, sizeof sheet, marks, sizeof marks);
     struct pulvanor_outcome refused = pulvanor_start(sheet, sizeof sheet, marks, 1);
+    struct pulvanor_outcome disk = pulvanor_start(sheet, sizeof sheet, disk_marks, sizeof disk_marks);
     struct pulvanor_outcome first = pulvanor_follow(start.run, all, 15);
     struct pulvanor_run moved;
     struct pulvanor_joined both;
@@ -97,6 +99,7 @@ int main(void) {
     outcome("three of them", first);
     outcome("then the other three", pulvanor_follow(first.run, all + 15, 15));
     outcome("stopped", pulvanor_follow(start.run, stopped, sizeof stopped));
+    outcome("stopped after a disk copy", pulvanor_follow(disk.run, stopped, sizeof stopped));
     outcome("a record cut short", pulvanor_follow(start.run, all, 14));
     moved = first.run;
     moved.place.awaiting = 7;

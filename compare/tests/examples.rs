@@ -23,12 +23,17 @@ fn sheet_a() -> Vec<u8> {
     sheet_writer::sheet(&PLATFORM_A, &[131072, 131072])
 }
 
-fn run_a(events: &[Event]) -> Run {
-    let mut history = History::new(&run::start(&sheet_a(), &[2, 3]).unwrap());
+/// The run of A under marks through events.
+fn run_under(marks: &[u8], events: &[Event]) -> Run {
+    let mut history = History::new(&run::start(&sheet_a(), marks).unwrap());
     for &event in events {
         history.step(event).unwrap();
     }
     history.run()
+}
+
+fn run_a(events: &[Event]) -> Run {
+    run_under(&[2, 3], events)
 }
 
 #[test]
@@ -94,6 +99,21 @@ fn stopped_run() {
     let place = run_a(&[Done, Passed, Stopped(500)]).place;
     assert_eq!((place.position, place.sums.kept, place.sums.redone), (0, 0, 131572));
     assert_eq!((place.sums.verify, place.sums.saves, place.sums.recovery), (928, 1000, 0));
+}
+
+/// Request 102: going back to a disk copy past the start costs R_D + R_M.
+#[test]
+fn disk_recovery_refills_memory() {
+    use Event::*;
+    let platform =
+        Platform { failstop: 1 << 28, silent: 1 << 29, cd: 30000, rm: 3000, ..PLATFORM_A };
+    let sheet = sheet_writer::sheet(&platform, &[131072, 131072]);
+    assert_eq!(price(&sheet, &[3, 3]), Ok(424978));
+    assert_eq!(plan::plan(&sheet, 2), Ok((424806, vec![2, 3])));
+    let place = run_under(&[3, 3], &[Done, Passed, Stopped(500)]).place;
+    assert_eq!((place.position, place.sums.recovery), (1, 5000));
+    let place = run_under(&[3, 3], &[Done, Passed, Done, Failed]).place;
+    assert_eq!((place.position, place.sums.recovery), (1, 1000));
 }
 
 #[test]

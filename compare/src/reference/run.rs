@@ -184,8 +184,11 @@ impl Replay {
         while self.saved.last().is_some_and(|s| !s.on_disk) {
             self.saved.pop();
         }
+        let platform = self.base.job.platform;
         let back = self.last_saved();
-        let cost = if back == 0 { 0 } else { u64::from(self.base.job.platform.rd) };
+        // Request 102: the disk image is read, and memory is filled again.
+        let refilled = u64::from(platform.rd) + u64::from(platform.rm);
+        let cost = if back == 0 { 0 } else { refilled };
         self.lost_ticks += u64::from(lost);
         self.recovery += cost;
         self.go_back(back);

@@ -72,8 +72,10 @@ pub struct Before {
 /// S of one stretch. M' and Q' are at most 2^64 (times are cut there) and a
 /// growth is under 2^30, so a product is under 2^96.
 pub fn time(platform: &Platform, s: &Growths, before: &Before) -> u128 {
-    let rd = if before.d == 0 { 0 } else { u128::from(platform.rd) };
-    let rm = if before.m == 0 { 0 } else { u128::from(platform.rm) };
+    let (rd, rm) = (u128::from(platform.rd), u128::from(platform.rm));
+    // Request 102: R_D' is R_D + R_M, still 0 if d = 0.
+    let rd = if before.d == 0 { 0 } else { rd + rm };
+    let rm = if before.m == 0 { 0 } else { rm };
     let work = up(s.weight * s.h_failstop) + u128::from(platform.v);
     let first = up(s.g_silent * work);
     let second = up((s.g_both - s.g_silent) * (rd + before.mem));

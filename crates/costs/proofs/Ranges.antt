@@ -26,7 +26,7 @@ chosen-range : (b : Bool) {x : ℕ} → x ≤ costLimit → cond b x 0 ≤ costL
 chosen-range true h = h
 chosen-range false h = omega arith
 
-skipped-range : (b : Bool) {x : ℕ} → x ≤ costLimit → cond b 0 x ≤ costLimit
+skipped-range : (b : Bool) {x most : ℕ} → x ≤ most → cond b 0 x ≤ most
 skipped-range true h = omega arith
 skipped-range false h = h
 
@@ -43,9 +43,9 @@ module _ (job : Job) (costs : CostsBounded (job .platform)) where
   unfolding cdAt
   cdAt-range v = costs .cd
 
-  pub rdAt-range : (d : ℕ) → rdAt job d ≤ costLimit
+  pub rdAt-range : (d : ℕ) → rdAt job d ≤ 2 * costLimit
   unfolding rdAt
-  rdAt-range d = skipped-range (eqb d 0) (costs .rd)
+  rdAt-range d = skipped-range (eqb d 0) (omega (arith, costs .rd, costs .rm))
 
   pub rmAt-range : (m : ℕ) → rmAt job m ≤ costLimit
   unfolding rmAt

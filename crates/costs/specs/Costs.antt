@@ -17,9 +17,9 @@ cmAt job v = job .platform .cm
 unfoldable pub cdAt : Job → ℕ → ℕ
 cdAt job v = job .platform .cd
 
--- R_D': R_D, or 0 if d = 0
+-- R_D': R_D + R_M, since a disk recovery refills memory (request 102), or 0 if d = 0
 unfoldable pub rdAt : Job → ℕ → ℕ
-rdAt job d = cond (eqb d 0) 0 (job .platform .rd)
+rdAt job d = cond (eqb d 0) 0 (job .platform .rd + job .platform .rm)
 
 -- R_M': R_M, or 0 if m = 0
 unfoldable pub rmAt : Job → ℕ → ℕ

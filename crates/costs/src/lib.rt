@@ -1,6 +1,7 @@
 // What a job puts into a chain: costs at each position, what a passed mark pays, and the factors of each stretch.
 ghost use mathlib.Core.Path.{_≡_};
 ghost use mathlib.Core.Bool.{cond};
+ghost use lib.Dec.{eqb};
 ghost use Prim.Native.Nat.{_≤_};
 ghost use Rattle.costs.specs.Costs.{vAt, cmAt, cdAt, rdAt, rmAt, verifyPaid, savesPaid};
 ghost use Rattle.costs.specs.Working.Costs.{CostIs};
@@ -13,43 +14,47 @@ use marks::payments;
 
 // V at v.
 pub fn v_at(job: Job, v: usize) -> u64
-    ensures { λ r. ⌜ CostIs (vAt job v) r ⌝ }
+    ensures { λ r. ⌜ CostIs 1 (vAt job v) r ⌝ }
 {
     job.platform.v as u64
 }
 
 // C_M at v.
 pub fn cm_at(job: Job, v: usize) -> u64
-    ensures { λ r. ⌜ CostIs (cmAt job v) r ⌝ }
+    ensures { λ r. ⌜ CostIs 1 (cmAt job v) r ⌝ }
 {
     job.platform.cm as u64
 }
 
 // C_D at v.
 pub fn cd_at(job: Job, v: usize) -> u64
-    ensures { λ r. ⌜ CostIs (cdAt job v) r ⌝ }
+    ensures { λ r. ⌜ CostIs 1 (cdAt job v) r ⌝ }
 {
     job.platform.cd as u64
 }
 
-// R_D' where d is the last disk copy.
-pub fn rd_at(job: Job, d: usize) -> u64
-    ensures { λ r. ⌜ CostIs (rdAt job d) r ⌝ }
+// The cost of a recovery at a position: 0 at the start.
+fn recovery(cost: u32, position: usize) -> u64
+    ensures { λ r. ⌜ CostIs 1 (cond (eqb position 0) 0 cost) r ⌝ }
 {
-    if d == 0 {
+    if position == 0 {
         return 0;
     }
-    job.platform.rd as u64
+    cost as u64
+}
+
+// R_D' where d is the last disk copy: its image is read, and copied back into memory.
+pub fn rd_at(job: Job, d: usize) -> u64
+    ensures { λ r. ⌜ CostIs 2 (rdAt job d) r ⌝ }
+{
+    recovery(job.platform.rd, d) + recovery(job.platform.rm, d)
 }
 
 // R_M' where m is the last memory copy.
 pub fn rm_at(job: Job, m: usize) -> u64
-    ensures { λ r. ⌜ CostIs (rmAt job m) r ⌝ }
+    ensures { λ r. ⌜ CostIs 1 (rmAt job m) r ⌝ }
 {
-    if m == 0 {
-        return 0;
-    }
-    job.platform.rm as u64
+    recovery(job.platform.rm, m)
 }
 
 // The cost, where it is paid.

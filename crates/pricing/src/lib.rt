@@ -40,8 +40,9 @@ fn arrival(job: Job, s: Progress, v: usize) -> u64
     ensures { λ r. ⌜ Arrived job s v r ⌝ }
 {
     let factors = stretch_factors(job.platform, s.weight, v_at(job, v));
+    let disk = rd_at(job, s.d) + s.mt;
     let recoveries = Recoveries {
-        disk: rd_at(job, s.d) + s.mt,
+        disk,
         memory: rm_at(job, s.m),
     };
     s.q + stretch_time(factors, recoveries, s.q)

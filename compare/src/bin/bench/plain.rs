@@ -3,7 +3,7 @@
 //! walk back that fills again the rows that it needs.
 //!
 //! A time beyond the limit is kept as NONE = 2^34. A growth is under 2^29.8
-//! and a time with a recovery at most 2^34 + 2^30, so products fit 64 bits.
+//! and a time with a recovery at most 2^34 + 2^31, so products fit 64 bits.
 
 use compare::types::{Job, Platform, MAX_TASKS};
 
@@ -122,7 +122,8 @@ fn verification_row(t: &Table, m: usize, disk: u64, memory: u64, top: usize) -> 
 
 /// The verifications after the memory copy m, whose M is `time`.
 fn after_copy(t: &Table, p: &Platform, d: usize, m: usize, time: u64, top: usize) -> Row {
-    verification_row(t, m, unless_start(p.rd, d) + time, unless_start(p.rm, m), top)
+    let disk = unless_start(p.rd, d) + unless_start(p.rm, d) + time;
+    verification_row(t, m, disk, unless_start(p.rm, m), top)
 }
 
 /// The best M from d.

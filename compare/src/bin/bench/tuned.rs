@@ -3,7 +3,7 @@
 //! the walk back asks for them.
 //!
 //! A time beyond the limit is kept as NONE = 2^34. A growth is under 2^29.8
-//! and a time with a recovery at most 2^34 + 2^30, so products fit 64 bits.
+//! and a time with a recovery at most 2^34 + 2^31, so products fit 64 bits.
 
 use crate::plain::Plan;
 use compare::types::{Job, Platform, MAX_TASKS};
@@ -137,7 +137,7 @@ fn time(pair: &Pair, reach: u64, q: u64) -> u64 {
 /// R_D' + M'.
 #[inline]
 fn reach(p: &Platform, d: usize, mem: u64) -> u64 {
-    mem + if d == 0 { 0 } else { u64::from(p.rd) }
+    mem + if d == 0 { 0 } else { u64::from(p.rd) + u64::from(p.rm) }
 }
 
 /// The best time from d to a memory copy at each later position.

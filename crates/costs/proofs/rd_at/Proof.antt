@@ -1,20 +1,37 @@
--- `costs::rd_at` meets its contract. Each return rewrites the definition by the branch that led there. Assumes nothing.
-use borrow.Author.Tests.{eq-eqb, ne-eqb}
+-- `costs::rd_at` meets its contract. Both costs are 0 at the start and whole elsewhere, and so is their sum; two costs of 32 bits cannot wrap. Assumes nothing.
+use Prim.Native.Nat.{ℕ, _+_}
+use mathlib.Core.Path.{_≡_, refl}
+use mathlib.Core.Bool.{Bool, true, false, cond}
+use native.Mathlib.Omega.{arith}
+use lib.Dec.{eqb}
 use Rattle.costs.specs.Costs.{rdAt}
 use borrow.Author.Needs.{needs}
 use Rattle.costs.proofs.rd_at.Statement.{statement}
 use Rattle.costs.proofs.rd_at.Tie as tie
 
+skipped-sum : (b : Bool) (x y : ℕ) → cond b 0 x + cond b 0 y ≡ cond b 0 (x + y)
+skipped-sum true x y = refl
+skipped-sum false x y = refl
+
+recovery-requires : tie.Need-recovery-requires
+recovery-requires c κs = search needs
+
+recovery-requires-2 : tie.Need-recovery-requires-2
+recovery-requires-2 c κs = search needs
+
+add-result : tie.Need-add-result
+add-result c = search needs
+
 returns : tie.Need-returns
 unfolding rdAt
-returns c = record { value = rw (eq-eqb _ _ (c .if1 .taken)); fits = search needs }
-
-cast-result : tie.Need-cast-result
-cast-result c = search needs
-
-returns-2 : tie.Need-returns-2
-unfolding rdAt
-returns-2 c = record { value = rw (ne-eqb _ _ (c .before .if1 .left)); fits = search needs }
+returns c =
+    let args = c .before .before .args in
+    let disk = c .before .recovery in
+    let memory = c .recovery2 in
+    record {
+      value = rw (disk .ensures .value, memory .ensures .value) (skipped-sum (eqb (args .d) 0) (args .job .platform .rd) (args .job .platform .rm));
+      fits = omega (arith, disk .ensures .fits, memory .ensures .fits);
+    }
 
 pub rd-at-spec : {M : Type 1} → statement M
-rd-at-spec = tie.close (tie.spec returns cast-result returns-2)
+rd-at-spec = tie.close (tie.spec recovery-requires recovery-requires-2 add-result returns)

@@ -1,7 +1,7 @@
--- A cost as the code gives it: the number itself, of 32 bits as on the sheet.
-use Prim.Native.Nat.{ℕ, _<_, _^_}
+-- A cost as the code gives it: the number itself, the sum of so many fields of the sheet, each of 32 bits.
+use Prim.Native.Nat.{ℕ, _*_, _<_, _^_}
 use mathlib.Core.Path.{_≡_}
 
-pub record CostIs (cost r : ℕ) : Type 0 where
+pub record CostIs (fields cost r : ℕ) : Type 0 where
   pub value : r ≡ cost
-  pub fits : r < 2 ^ 32
+  pub fits : r < fields * 2 ^ 32

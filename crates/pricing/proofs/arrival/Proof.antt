@@ -24,8 +24,8 @@ stretch-factors-requires c κs =
 rd-at-requires : tie.Need-rd-at-requires
 rd-at-requires c κs = search needs
 
-add-t7 : tie.Need-add-t7
-add-t7 c = search needs
+add-disk : tie.Need-add-disk
+add-disk c = search needs
 
 rm-at-requires : tie.Need-rm-at-requires
 rm-at-requires c κs = search needs
@@ -81,7 +81,7 @@ arrival-spec =
     v-at-requires
     stretch-factors-requires
     rd-at-requires
-    add-t7
+    add-disk
     rm-at-requires
     stretch-time-requires
     add-result

@@ -2,6 +2,7 @@
 use Prim.Native.Nat.{_+_, _-_, _≤_}
 use mathlib.Core.Path.{_≡_, sym, _∙_}
 use native.Mathlib.Omega.{arith}
+use Rattle.costs.proofs.Ranges.{rdAt-range}
 use Rattle.planning.specs.Working.Fill.{TableTo}
 use Rattle.planning.proofs.Fills.{table-first, table-more}
 use Rattle.planning.proofs.fill.fill_costs.Statement.{statement}
@@ -34,6 +35,7 @@ rm-at-requires c κs = search needs
 put-costs-requires : tie.Need-put-costs-requires Inv-loop μ-loop
 put-costs-requires c κs =
     let loop = c .before .before .before .before .before .before .loop in
+    let args = c .before .before .before .before .before .before .before .before .args in
     let pre = c .before .before .before .before .before .before .before .before .pre in
     let cm-at = c .before .before .before .before .cm-at in
     let cd-at = c .before .before .before .cd-at in
@@ -44,7 +46,7 @@ put-costs-requires c κs =
       few = omega (arith, pre .sound .few-tasks);
       cm = cm-at .ensures .fits;
       cd = cd-at .ensures .fits;
-      rd = rd-at .ensures .fits;
+      rd = omega (arith, rd-at .ensures .value, rdAt-range (args .job) (pre .sound .costs) (loop .v));
       rm = rm-at .ensures .fits;
     }
 
