@@ -46,14 +46,15 @@ struct pulvanor_joined {
     size_t length;
 };
 
-/* The platform section of a sheet. */
+/* The platform section of a sheet. Going back to a copy on disk costs rd + rm, to one in memory rm, and to the
+   start nothing. */
 struct pulvanor_platform {
     uint32_t failstop;                        /* rates: r means r / 2^48 errors a tick */
     uint32_t silent;
     uint32_t cd;                              /* ticks: a copy on disk, a copy in memory, a verification, */
     uint32_t cm;
     uint32_t v;
-    uint32_t rd;                              /* going back to a copy on disk, to one in memory */
+    uint32_t rd;                              /* reading back a copy on disk, one in memory */
     uint32_t rm;
 };
 
@@ -113,7 +114,8 @@ struct pulvanor_found pulvanor_lookup(const uint8_t *sheet, size_t sheet_length,
    parts, since a recovery at the seam has a cost: plan the joined sheet. */
 struct pulvanor_joined pulvanor_join(const uint8_t *first, size_t first_length, const uint8_t *second, size_t second_length, uint8_t *buffer, size_t buffer_length);
 
-/* The time of the sheet under these marks, D(n) of document 01. Refusals 1 to 10 and 13. */
+/* The time of the sheet under these marks, D(n) of document 01 with request 102 (a recovery from disk costs
+   R_D + R_M, and 0 at the start). Refusals 1 to 10 and 13. */
 struct pulvanor_answer pulvanor_price(const uint8_t *sheet, size_t sheet_length, const uint8_t *marks, size_t marks_length);
 
 /* The least time of all allowed settings of the sheet; the setting's marks, one byte a task, are the first n
@@ -126,7 +128,8 @@ struct pulvanor_outcome pulvanor_start(const uint8_t *sheet, size_t sheet_length
 
 /* The records of a log, read and applied in turn from the state given; one record is one event. A record is a
    code (1 Done, 2 Passed, 3 Failed, 4 Stopped), then the lost ticks, 4 bytes, lowest first, 0 except for code
-   4. Refusals 12 and 21 to 25; the first of them hands back the state given. 21 is tested even for an empty
+   4. Failed adds R_M to the recovery and Stopped R_D + R_M, but 0 where the run goes back to the start.
+   Refusals 12 and 21 to 25; the first of them hands back the state given. 21 is tested even for an empty
    log. */
 struct pulvanor_outcome pulvanor_follow(struct pulvanor_run run, const uint8_t *log, size_t log_length);
 

@@ -107,9 +107,10 @@ fn disk_recovery_refills_memory() {
     use Event::*;
     let platform =
         Platform { failstop: 1 << 28, silent: 1 << 29, cd: 30000, rm: 3000, ..PLATFORM_A };
-    let sheet = sheet_writer::sheet(&platform, &[131072, 131072]);
-    assert_eq!(price(&sheet, &[3, 3]), Ok(424978));
-    assert_eq!(plan::plan(&sheet, 2), Ok((424806, vec![2, 3])));
+    let of = |tasks: usize| sheet_writer::sheet(&platform, &vec![131072; tasks]);
+    assert_eq!(price(&of(2), &[3, 3]), Ok(424978));
+    assert_eq!(price(&of(4), &[3, 2, 3, 3]), Ok(853381));
+    assert_eq!(plan::plan(&of(2), 2), Ok((424806, vec![2, 3])));
     let place = run_under(&[3, 3], &[Done, Passed, Stopped(500)]).place;
     assert_eq!((place.position, place.sums.recovery), (1, 5000));
     let place = run_under(&[3, 3], &[Done, Passed, Done, Failed]).place;

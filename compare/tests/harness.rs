@@ -2,7 +2,7 @@
 
 use compare::harness::check;
 use compare::harness::jobs;
-use compare::harness::tally::{Call, Joins, Tally, NUMBERS, WANTED};
+use compare::harness::tally::{Call, Tally, NUMBERS, WANTED};
 use compare::random::Random;
 use compare::reference::plan;
 use compare::reference::setting::MAX_TIME;
@@ -56,16 +56,19 @@ fn complete_needs_every_number_and_every_edge_often() {
         assert!(!tally.complete());
         (0..WANTED).for_each(|_| tally.count(Call::Plan, number));
     }
-    let edges: [fn(&mut Joins) -> &mut u64; 5] = [
-        |j| &mut j.of_64,
-        |j| &mut j.of_65,
-        |j| &mut j.at_total,
-        |j| &mut j.over_total,
-        |j| &mut j.one_short,
+    let edges: [fn(&mut Tally) -> &mut u64; 8] = [
+        |t| &mut t.joins.of_64,
+        |t| &mut t.joins.of_65,
+        |t| &mut t.joins.at_total,
+        |t| &mut t.joins.over_total,
+        |t| &mut t.joins.one_short,
+        |t| &mut t.refills.stopped,
+        |t| &mut t.refills.priced,
+        |t| &mut t.refills.past_disk,
     ];
     for edge in edges {
         assert!(!tally.complete());
-        *edge(&mut tally.joins) = WANTED;
+        *edge(&mut tally) = WANTED;
     }
     assert!(tally.complete());
 }

@@ -90,6 +90,20 @@ impl Check<'_> {
         let reference = calls::price(&self.sheet, marks);
         self.tally.count(Call::Price, reference.number);
         self.tally.same("price", &self.sheet, &marks, &library, &reference);
+        if reference.number == 0 {
+            self.count_refills(marks);
+        }
+    }
+
+    /// Counts an accepted price that has R_M in an R_D'.
+    fn count_refills(&mut self, marks: &[u8]) {
+        let platform = sheet::read(&self.sheet).expect("a sheet that has a price").platform;
+        let before_last = &marks[..marks.len() - 1];
+        let disk = before_last.iter().position(|&mark| mark == 3);
+        if let (Some(disk), 1.., 1..) = (disk, platform.failstop, platform.rm) {
+            self.tally.refills.priced += 1;
+            self.tally.refills.past_disk += u64::from(before_last[disk..].contains(&2));
+        }
     }
 
     fn prices(&mut self, job: &Job, case: &Case) {
@@ -195,6 +209,9 @@ impl Check<'_> {
         let library = library::step(run, event);
         self.tally.count(Call::Step, reference.number);
         self.tally.same("step", &self.sheet, &(run, event), &library, &reference);
+        if let (0, Event::Stopped(_), 1..) = (reference.number, event, run.job.platform.rm) {
+            self.tally.refills.stopped += u64::from(reference.run.place.position > 0);
+        }
     }
 
     fn lone_step(&mut self, run: &Run, event: Event) -> Run {

@@ -35,6 +35,17 @@ pub struct Joins {
     pub one_short: u64,
 }
 
+/// Recoveries from disk past the start, on platforms with an R_M (request 102).
+#[derive(Default)]
+pub struct Refills {
+    /// Stopped events that go back to a disk copy.
+    pub stopped: u64,
+    /// Prices with fail-stop errors after a disk copy.
+    pub priced: u64,
+    /// Such prices in which a memory copy stands past the disk copy.
+    pub past_disk: u64,
+}
+
 #[derive(Default)]
 pub struct Tally {
     pub sheets: u64,
@@ -43,6 +54,7 @@ pub struct Tally {
     pub at_limit: u64,
     pub over_limit: u64,
     pub joins: Joins,
+    pub refills: Refills,
     pub differences: u64,
     counts: [[u64; 27]; 7],
 }
@@ -87,21 +99,24 @@ impl Tally {
         }
     }
 
-    /// How often each edge of a join was seen.
-    fn join_edges(&self) -> [(&'static str, u64); 5] {
-        let j = &self.joins;
+    /// How often each edge of the requests was seen.
+    fn edges(&self) -> [(&'static str, u64); 8] {
+        let (j, r) = (&self.joins, &self.refills);
         [
             ("joined, 64 tasks", j.of_64),
             ("refused, 65", j.of_65),
             ("joined, 2^30", j.at_total),
             ("refused, 2^30 + 1", j.over_total),
             ("one byte short", j.one_short),
+            ("refills, Stopped", r.stopped),
+            ("refills, priced", r.priced),
+            ("with m past d", r.past_disk),
         ]
     }
 
     /// Whether every number and every edge was seen often enough.
     pub fn complete(&self) -> bool {
-        let edges = self.join_edges();
+        let edges = self.edges();
         NUMBERS.iter().all(|&n| self.seen(n) >= WANTED) && edges.iter().all(|e| e.1 >= WANTED)
     }
 
@@ -122,7 +137,7 @@ impl Tally {
         println!("sheets compared   {} ({} pass 1 to 8)", self.sheets, self.read);
         println!("lookups           {}", self.calls(Call::Lookup));
         println!("joins             {}", self.calls(Call::Join));
-        self.join_edges().iter().for_each(|(name, seen)| println!("{name:<18}{seen}"));
+        self.edges().iter().for_each(|(name, seen)| println!("{name:<18}{seen}"));
         println!("settings priced   {}", self.calls(Call::Price));
         println!("plans             {}", self.calls(Call::Plan));
         println!("starts            {}", self.calls(Call::Start));

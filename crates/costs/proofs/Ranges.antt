@@ -22,7 +22,7 @@ use Rattle.costs.specs.Costs.{vAt, cmAt, cdAt, rdAt, rmAt, verifyPaid, s
 use Rattle.costs.specs.Working.Factors.{factorsOf, ReadyForFactors}
 
 -- a cost that a test may leave out
-chosen-range : (b : Bool) {x : ℕ} → x ≤ costLimit → cond b x 0 ≤ costLimit
+chosen-range : (b : Bool) {x most : ℕ} → x ≤ most → cond b x 0 ≤ most
 chosen-range true h = h
 chosen-range false h = omega arith
 

@@ -33,8 +33,8 @@ pub fn cd_at(job: Job, v: usize) -> u64
     job.platform.cd as u64
 }
 
-// The cost of a recovery at a position: 0 at the start.
-fn recovery(cost: u32, position: usize) -> u64
+// The cost of going back to a position, or 0 if it is the start.
+fn unless_start(cost: u32, position: usize) -> u64
     ensures { λ r. ⌜ CostIs 1 (cond (eqb position 0) 0 cost) r ⌝ }
 {
     if position == 0 {
@@ -47,14 +47,14 @@ fn recovery(cost: u32, position: usize) -> u64
 pub fn rd_at(job: Job, d: usize) -> u64
     ensures { λ r. ⌜ CostIs 2 (rdAt job d) r ⌝ }
 {
-    recovery(job.platform.rd, d) + recovery(job.platform.rm, d)
+    unless_start(job.platform.rd, d) + unless_start(job.platform.rm, d)
 }
 
 // R_M' where m is the last memory copy.
 pub fn rm_at(job: Job, m: usize) -> u64
     ensures { λ r. ⌜ CostIs 1 (rmAt job m) r ⌝ }
 {
-    recovery(job.platform.rm, m)
+    unless_start(job.platform.rm, m)
 }
 
 // The cost, where it is paid.

@@ -40,7 +40,7 @@ fn even(n: usize) -> Vec<u32> {
     (0..n).map(|i| WORK / n + u32::from(i < WORK % n)).collect()
 }
 
-/// R_D = C_D, R_M = C_M and V = C_M, as in source document 000.
+/// R_D = C_D, R_M = C_M and V = C_M, as in source documents 000 and 002.
 pub fn listed(of: &Listed, n: usize) -> Vec<u8> {
     let (failstop, silent) = (rate(of.failstop), rate(of.silent));
     let (cd, cm) = (of.cd * 10, of.cm * 10);

@@ -1,15 +1,15 @@
--- `costs::rm_at` meets its contract. It is the recovery of one cost. Assumes nothing.
+-- `costs::rm_at` meets its contract. It is one cost, or 0 at the start. Assumes nothing.
 use Rattle.costs.specs.Costs.{rmAt}
 use borrow.Author.Needs.{needs}
 use Rattle.costs.proofs.rm_at.Statement.{statement}
 use Rattle.costs.proofs.rm_at.Tie as tie
 
-recovery-requires : tie.Need-recovery-requires
-recovery-requires c κs = search needs
+unless-start-requires : tie.Need-unless-start-requires
+unless-start-requires c κs = search needs
 
 returns : tie.Need-returns
 unfolding rmAt
-returns c = c .recovery .ensures
+returns c = c .unless-start .ensures
 
 pub rm-at-spec : {M : Type 1} → statement M
-rm-at-spec = tie.close (tie.spec recovery-requires returns)
+rm-at-spec = tie.close (tie.spec unless-start-requires returns)

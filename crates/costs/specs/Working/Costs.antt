@@ -1,4 +1,4 @@
--- A cost as the code gives it: the number itself, the sum of so many fields of the sheet, each of 32 bits.
+-- A cost as the code gives it: the number itself. Made of so many fields of the sheet, it is below so many times 2^32.
 use Prim.Native.Nat.{ℕ, _*_, _<_, _^_}
 use mathlib.Core.Path.{_≡_}
 
