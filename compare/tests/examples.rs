@@ -39,18 +39,18 @@ fn run_a(events: &[Event]) -> Run {
 #[test]
 fn growth_sums() {
     assert_eq!((g(0), h(0)), (UNIT, UNIT));
-    assert_eq!((g(1), h(1)), (UNIT + 32, UNIT + 32));
-    assert_eq!(g(2), UNIT + 33);
-    assert_eq!(g(1 << 24), 45605227);
-    assert_eq!(g(1 << 25), 123967816);
+    assert_eq!((g(1), h(1)), (UNIT + 2, UNIT + 1));
+    assert_eq!(g(2), UNIT + 3);
+    assert_eq!(g(1 << 24), 45605202);
+    assert_eq!(g(1 << 25), 123967791);
     assert_eq!((g((1 << 26) + 1), h((1 << 26) + 1)), (0, 0));
     assert_ne!(g(1 << 26), 0);
 }
 
 #[test]
 fn times_under_a() {
-    assert_eq!(price(&sheet_a(), &[0, 3]), Ok(1949855));
-    assert_eq!(price(&sheet_a(), &[1, 3]), Ok(1340173));
+    assert_eq!(price(&sheet_a(), &[0, 3]), Ok(1949854));
+    assert_eq!(price(&sheet_a(), &[1, 3]), Ok(1340172));
     assert_eq!(price(&sheet_a(), &[2, 3]), Ok(726347));
     assert_eq!(price(&sheet_a(), &[3, 3]), Ok(731347));
 }

@@ -1,4 +1,5 @@
--- The starred examples of document 01: one list of a number that the definitions give and the number that 01 prints, and one test over it.
+-- The starred examples of document 01: one list of a number that the definitions give and the number that 01 prints, and one test over it. Growths and
+-- times are those of request 103, worked out anew.
 use Prim.Native.Nat.{ℕ, _+_, _^_}
 use mathlib.Core.Bool.{Bool, true, _&&_}
 use mathlib.Core.List.{List, [], _∷_}
@@ -36,7 +37,7 @@ runOfA =
 pub record Example : Type 0 where
   -- what the definitions give
   pub given : ℕ
-  -- what document 01 prints
+  -- what document 01 prints, or has come to with request 103
   pub printed : ℕ
 
 abbrev example : ℕ → ℕ → Example
@@ -46,13 +47,13 @@ unfoldable pub starred : List Example
 starred =
     example (G 0) (2 ^ 24)
     ∷ example (H 0) (2 ^ 24)
-    ∷ example (G 1) (2 ^ 24 + 32)
-    ∷ example (H 1) (2 ^ 24 + 32)
-    ∷ example (G 2) (2 ^ 24 + 33)
-    ∷ example (G (2 ^ 24)) 45605227
-    ∷ example (G (2 ^ 25)) 123967816
-    ∷ example (timeUnder sheetA (0 ∷ 3 ∷ [])) 1949855
-    ∷ example (timeUnder sheetA (1 ∷ 3 ∷ [])) 1340173
+    ∷ example (G 1) (2 ^ 24 + 2)
+    ∷ example (H 1) (2 ^ 24 + 1)
+    ∷ example (G 2) (2 ^ 24 + 3)
+    ∷ example (G (2 ^ 24)) 45605202
+    ∷ example (G (2 ^ 25)) 123967791
+    ∷ example (timeUnder sheetA (0 ∷ 3 ∷ [])) 1949854
+    ∷ example (timeUnder sheetA (1 ∷ 3 ∷ [])) 1340172
     ∷ example (timeUnder sheetA (2 ∷ 3 ∷ [])) 726347
     ∷ example (timeUnder sheetA (3 ∷ 3 ∷ [])) 731347
     ∷ example (timeUnder sheetOne (3 ∷ [])) 30
@@ -63,7 +64,7 @@ starred =
     ∷ example (runOfA .recovery) 1000
     ∷ []
 
--- each example gives what 01 prints
+-- each example gives what is printed
 unfoldable pub allAgree : List Example → Bool
 allAgree [] = true
 allAgree (e ∷ es) = eqb (e .given) (e .printed) && allAgree es

@@ -1,20 +1,21 @@
--- The rounded sums against the exact series. Rounding up adds less than 1 to a term, and the next term carries at most 4 / (k + shift) of what was added
--- before, since y is at most 4 units. Kept in tenths and rounded up, these errors sum to less than 640, by computing; that wants G's first
--- step to be exact, t_1 = y, after which its errors are those of every shift from 1 on, one place later. Assumes nothing.
+-- The rounded sums against the exact series, in units of 2^-30. Rounding up adds less than 1 to a term, and the next term carries at most 4 / (k + shift) of
+-- what was added before, since y is at most 4 × 2^24. Kept in tenths and rounded up, these errors sum to less than 64, by computing; that wants G's first
+-- step to be exact, t_1 = 64 y, after which its errors are those of every shift from 1 on, one place later. The division by 64 makes them less than 1 unit
+-- of 2^-24, and rounds up by less than another. Assumes nothing.
 use mathlib.Core.Path.{_≡_}
 use Prim.Native.Nat.{ℕ, zero, suc, _+_, _*_, _^_, _≤_, _<_}
 use native.Mathlib.Nat.{le-trans, pow-zero, pow-suc, mul-pos, mul-le-mul-left, mul-le-mul-right}
 use native.Mathlib.Omega.{arith}
 use lib.Dec.{lit<}
 use Rattle.units.specs.Unit.{unit, exponentLimit}
-use Rattle.growth.specs.Growth.{lastTerm, ceilDiv, term, termSum, growthSum, Fraction, addFraction, risingFactorial, seriesTerm, seriesSum, exactSum, WithinBound}
+use Rattle.growth.specs.Growth.{lastTerm, termUnit, guard, ceilDiv, term, termSum, growthSum, Fraction, addFraction, risingFactorial, seriesTerm, seriesSum, exactSum, WithinBound}
 use Rattle.growth.proofs.Terms.{ceil-ge, ceil-lt, ceil-le}
 
--- v units are at least the fraction, and at most e tenths of a unit above it
+-- v is, in units of 2^-30, at least the fraction, and at most e tenths of such a unit above it
 record Near (v : ℕ) (p : Fraction) (e : ℕ) : Type 0 where
   positive : 0 < p .den
-  least : unit * p .num ≤ v * p .den
-  most : 10 * (v * p .den) ≤ 10 * (unit * p .num) + e * p .den
+  least : termUnit * p .num ≤ v * p .den
+  most : 10 * (v * p .den) ≤ 10 * (termUnit * p .num) + e * p .den
 
 near-plus : (v w e f : ℕ) (p q : Fraction) → Near v p e → Near w q f → Near (v + w) (addFraction p q) (e + f)
 unfolding addFraction
@@ -66,7 +67,7 @@ errorSum : ℕ → ℕ → ℕ
 errorSum s zero = errorAt s zero
 errorSum s (suc k) = errorSum s k + errorAt s (suc k)
 
-errorSum-limit : (s : ℕ) → errorSum s lastTerm < 640
+errorSum-limit : (s : ℕ) → errorSum s lastTerm < 10 * guard
 unfolding errorSum errorAt error ceilDiv
 errorSum-limit zero = lit< tt
 errorSum-limit (suc s) = lit< tt
@@ -84,12 +85,12 @@ near-next s y k m e within pos le a =
     (near-scaled _ _ y (suc k + s) e _ _ (omega arith) within (ceil-ge _ _ (omega arith)) (ceil-lt _ _ (omega arith))
     (le-trans (ceil-ge (4 * e) m pos) (mul-le-mul-left _ le)) a)
 
--- t_1 = y
+-- t_1 = 64 y
 near-exact : (y : ℕ) → Near (term 0 y 1) (seriesTerm 0 y 1) 0
 unfolding term scaled
 near-exact y =
-    let over = ceil-ge (unit * y) unit (omega arith) in
-    let under = ceil-le (unit * y) unit y (omega arith) (omega arith) in
+    let over = ceil-ge (termUnit * y) unit (omega arith) in
+    let under = ceil-le (termUnit * y) unit (guard * y) (omega arith) (omega arith) in
     rw (series-next 0 y 0, series-first 0 y) (record { positive = omega arith; least = omega arith; most = omega arith })
 
 near-term : (s y k : ℕ) → y ≤ exponentLimit → Near (term s y k) (seriesTerm s y k) (errorAt s k)
@@ -105,9 +106,15 @@ unfolding termSum seriesSum errorSum
 near-sum s y zero within = near-term s y zero within
 near-sum s y (suc k) within = near-plus _ _ _ _ _ _ (near-sum s y k within) (near-term s y (suc k) within)
 
-near-bound : (v e : ℕ) (p : Fraction) → e < 640 → Near v p e → WithinBound v p
+-- errors of less than 64 units of 2^-30, and a division by 64 that rounds up: together less than 2 units of 2^-24
+near-bound : (v e : ℕ) (p : Fraction) → e < 10 * guard → Near v p e → WithinBound (ceilDiv v guard) p
 near-bound v e p small a =
-    record { at-least = a .least; below = omega (arith, mul-le-mul-right (p .den) small, a .positive, a .most) }
+    let over = mul-le-mul-right (p .den) (ceil-ge v guard (omega arith)) in
+    let under = mul-le-mul-right (p .den) (ceil-lt v guard (omega arith)) in
+    record {
+      at-least = omega (arith, over, a .least);
+      below = omega (arith, under, mul-le-mul-right (p .den) small, a .positive, a .most);
+    }
 
 pub growthSum-bound : (s y : ℕ) → y ≤ exponentLimit → WithinBound (growthSum s y) (exactSum s y)
 unfolding growthSum exactSum

@@ -1,15 +1,15 @@
--- The laws of G and H that callers use, each proved once over the shift. Up to the limit G and H are the sums, which grow with y and have 2^24 as
--- their first term; above it they are 0. So the value at the limit, which is computed, caps them at every y.
+-- The laws of G and H that callers use, each proved once over the shift. Up to the limit G and H are the sums, which grow with y and are 2^24 at
+-- least; above it they are 0. So the value at the limit, which is computed, caps them at every y.
 -- Assumes nothing.
 use Prim.Native.Nat.{ℕ, _+_, _*_, _^_, _≤_, _<_}
 use mathlib.Core.Path.{_≡_}
-use native.Mathlib.Nat.{le-refl, le-trans, le-add-right, lt-of-not-le}
+use native.Mathlib.Nat.{le-refl, le-trans, le-add-right, lt-of-not-le, lt-of-mul-lt-mul-right}
 use native.Mathlib.Decide.{decLe}
 use native.Mathlib.Omega.{arith}
 use lib.Dec.{lit≤}
 use Rattle.units.specs.Unit.{unit, exponentLimit}
 use Rattle.units.specs.Working.Caps.{growthCap, meanGrowthCap}
-use Rattle.growth.specs.Growth.{ceilDiv, term, termSum, growthSum, growth, G, H, exactSum, WithinBound}
+use Rattle.growth.specs.Growth.{ceilDiv, term, termSum, growthSum, growth, G, H, Fraction, exactSum, boundUnits, WithinBound}
 use Rattle.growth.proofs.Error.{growthSum-bound}
 use Rattle.growth.proofs.Terms.{growthSum-mono, growthSum-unit, growth-within, growth-above}
 
@@ -27,7 +27,7 @@ growth-most s y = at (decLe y exponentLimit)
     at (yes within) = growth-mono s y exponentLimit within (le-refl exponentLimit)
     at (no not) = rw (growth-above s y (lt-of-not-le not)) (omega arith)
 
--- "Each is at least 2^24 times the exact sum of the same 33 series terms, and less than 64 above it."
+-- "less than 2 units of 2^-24 above the exact 33 terms, never below"
 pub growth-bound : (shift y : ℕ) → y ≤ exponentLimit → WithinBound (growth shift y) (exactSum shift y)
 growth-bound shift y within = rw (growth-within shift y within) (growthSum-bound shift y within)
 
@@ -38,6 +38,12 @@ G-bound = growth-bound 0
 pub H-bound : (y : ℕ) → y ≤ exponentLimit → WithinBound (H y) (exactSum 1 y)
 unfolding H
 H-bound = growth-bound 1
+
+-- the bound leaves two numbers in a row: two that keep it differ by at most 1
+pub bound-close : (a b : ℕ) (exact : Fraction) → WithinBound a exact → WithinBound b exact → a ≤ b + 1
+bound-close a b exact r s =
+    let below : a * exact .den < (b + boundUnits) * exact .den = omega (arith, r .below, s .at-least) in
+    omega (arith, lt-of-mul-lt-mul-right (exact .den) below)
 
 pub G-mono : (a b : ℕ) → a ≤ b → b ≤ 2 ^ 26 → G a ≤ G b
 unfolding G

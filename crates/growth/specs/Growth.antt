@@ -1,4 +1,4 @@
--- Document 01, "Growth sums": the rounded sums G(y) and H(y), the exact series beside them, and the bound that ties the two.
+-- Document 01, "Growth sums", with request 103: the rounded sums G(y) and H(y), the exact series beside them, and the bound that ties the two.
 -- The shift is what the divisor adds to k: 0 for G, whose terms are t_k, and 1 for H, whose terms are u_k.
 use mathlib.Core.Bool.{cond}
 use Prim.Native.Nat.{ℕ, zero, suc, _+_, _-_, _*_, _/_, _^_, _≤_, _<_}
@@ -9,13 +9,21 @@ use Rattle.units.specs.Unit.{unit, exponentLimit}
 abbrev pub lastTerm : ℕ
 lastTerm = 32
 
+-- terms are carried in units of 2^-30: t_0 and u_0 are 2^30
+abbrev pub termUnit : ℕ
+termUnit = 2 ^ 30
+
+-- 64 of these make a unit of 2^-24 (six guard bits)
+abbrev pub guard : ℕ
+guard = 64
+
 -- n divided by d, rounded up
 unfoldable pub ceilDiv : ℕ → ℕ → ℕ
 ceilDiv n d = (n + (d - 1)) / d
 
--- t_0 = 2^24, and t_k is t_(k-1) times y, divided by k × 2^24, rounded up; for u_k the divisor is (k+1) × 2^24
+-- t_0 = 2^30, and t_k is t_(k-1) times y, divided by k × 2^24, rounded up; for u_k the divisor is (k+1) × 2^24
 unfoldable pub term : ℕ → ℕ → ℕ → ℕ
-term shift y zero = unit
+term shift y zero = termUnit
 term shift y (suc k) = ceilDiv (term shift y k * y) ((suc k + shift) * unit)
 
 -- t_0 + t_1 + .. + t_k
@@ -23,9 +31,9 @@ unfoldable pub termSum : ℕ → ℕ → ℕ → ℕ
 termSum shift y zero = term shift y zero
 termSum shift y (suc k) = termSum shift y k + term shift y (suc k)
 
--- t_0 + t_1 + .. + t_32
+-- t_0 + t_1 + .. + t_32, in units of 2^-24: "the whole sum is divided by 64 and rounded up once"
 unfoldable pub growthSum : ℕ → ℕ → ℕ
-growthSum shift y = termSum shift y lastTerm
+growthSum shift y = ceilDiv (termSum shift y lastTerm) guard
 
 -- "For y above 2^26 both give 0"
 unfoldable pub growth : ℕ → ℕ → ℕ
@@ -66,11 +74,11 @@ seriesSum shift y (suc k) = addFraction (seriesSum shift y k) (seriesTerm shift 
 unfoldable pub exactSum : ℕ → ℕ → Fraction
 exactSum shift y = seriesSum shift y lastTerm
 
--- how far a sum may lie above the exact one, in units
+-- how far a sum may lie above the exact one, in units of 2^-24
 abbrev pub boundUnits : ℕ
-boundUnits = 64
+boundUnits = 2
 
--- "at least 2^24 times the exact sum .., and less than 64 above it", both sides times the denominator
+-- "less than 2 units of 2^-24 above the exact 33 terms, never below", both sides times the denominator
 pub record WithinBound (sum : ℕ) (exact : Fraction) : Type 0 where
   pub at-least : unit * exact .num ≤ sum * exact .den
   pub below : sum * exact .den < unit * exact .num + boundUnits * exact .den

@@ -1,3 +1,3 @@
 -- Definitions that proofs work with and that no reader has to believe.
-pub mod Divide
+pub mod Ready
 pub mod Settled

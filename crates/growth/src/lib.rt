@@ -1,15 +1,22 @@
-// The growth sums G and H of document 01, in units of 2^-24. They know nothing of tasks or marks.
+// The growth sums G and H of document 01 with request 103, in units of 2^-24. They know nothing of tasks or marks.
 ghost use mathlib.Core.Path.{_≡_};
 ghost use Prim.Native.Nat.{_≤_};
 ghost use Rattle.growth.specs.Growth;
-ghost use Rattle.growth.specs.Working.Divide.{ReadyToDivide};
+ghost use Rattle.growth.specs.Working.Ready.{ReadyToDivide, ReadyToSum};
 ghost use Rattle.growth.specs.Working.Settled.{settled};
 use units::EXPONENT_LIMIT;
 use units::UNIT;
 
 const LAST_TERM: u64 = 32;
 
-const SETTLED_FROM: u64 = 3;
+// The third would do as well; but the divisors of the first terms are constants in compiled code, and it is quicker to work these out than to ask.
+const SETTLED_FROM: u64 = 4;
+
+// 1, in the units of 2^-30 that terms are carried in.
+const TERM_UNIT: u64 = 1 << 30;
+
+// How many of them make a unit of 2^-24.
+const GUARD: u64 = 64;
 
 // n / d rounded up.
 fn ceil_div(n: u64, d: u64) -> u64
@@ -19,14 +26,34 @@ fn ceil_div(n: u64, d: u64) -> u64
     (n + (d - 1)) / d
 }
 
-// From the third term on, a term of 0 or 1 stands for all later ones.
-fn is_settled(k: u64, term: u64) -> bool
-    ensures { λ r. ⌜ r ≡ settled k term ⌝ }
+// From the fourth term on, where the product of a term with y is 0 or 1, so is every later term.
+fn is_settled(k: u64, product: u64) -> bool
+    ensures { λ r. ⌜ r ≡ settled k product ⌝ }
 {
     if k < SETTLED_FROM {
         return false;
     }
-    term <= 1
+    product <= 1
+}
+
+// The terms 0 to 32 added, in units of 2^-30. Dividing by 2^24, which is a shift, and then by k + shift rounds up to the same as dividing at once.
+fn term_sum(shift: u64, y: u64) -> u64
+    requires { ⌜ ReadyToSum shift y ⌝ }
+    ensures { λ r. ⌜ r ≡ Growth.termSum shift y Growth.lastTerm ⌝ }
+{
+    let mut term = TERM_UNIT;
+    let mut sum = TERM_UNIT;
+    let mut k = 0;
+    while k < LAST_TERM {
+        let product = ceil_div(term * y, UNIT);
+        if is_settled(k, product) {
+            return sum + (LAST_TERM - k) * product;
+        }
+        k += 1;
+        term = ceil_div(product, k + shift);
+        sum += term;
+    }
+    sum
 }
 
 // Both sums: they differ in the divisor's shift alone, 0 for G and 1 for H.
@@ -37,18 +64,8 @@ fn growth(shift: u64, y: u64) -> u64
     if EXPONENT_LIMIT < y {
         return 0;
     }
-    let mut term = UNIT;
-    let mut sum = UNIT;
-    let mut k = 0;
-    while k < LAST_TERM {
-        if is_settled(k, term) {
-            return sum + (LAST_TERM - k) * term;
-        }
-        k += 1;
-        term = ceil_div(term * y, (k + shift) * UNIT);
-        sum += term;
-    }
-    sum
+    let sum = term_sum(shift, y);
+    (sum + (GUARD - 1)) / GUARD
 }
 
 // G(y): e^z in units of 2^-24, z = y / 2^24.

@@ -11,6 +11,10 @@ const POSITIONS: usize = MAX_TASKS + 1;
 const UNIT: u64 = 1 << 24;
 const EXPONENT_LIMIT: u64 = 1 << 26;
 const LAST_TERM: u64 = 32;
+/// Terms are carried in units of 2^-30, 64 of which make one of 2^-24.
+const TERM_UNIT: u64 = 1 << 30;
+const GUARD: u64 = 64;
+const SETTLED_FROM: u64 = 4;
 /// 'None yet', and any time above the limit.
 const NONE: u64 = 1 << 34;
 
@@ -55,20 +59,23 @@ fn up(p: u64) -> u64 {
     (p + (UNIT - 1)) / UNIT
 }
 
-/// 33 terms; from the third on, a term of 1 or 0 stands for all later ones.
+/// 33 terms; dividing by 2^24 first and by k + shift next rounds up the same
+/// way. From the fourth on, a product of 1 or 0 stands for all later terms.
 fn growth(shift: u64, y: u64) -> u64 {
     if y > EXPONENT_LIMIT {
         return 0;
     }
-    let (mut term, mut sum) = (UNIT, UNIT);
-    for k in 1..=LAST_TERM {
-        term = (term * y).div_ceil((k + shift) * UNIT);
-        sum += term;
-        if k >= 3 && term <= 1 {
-            return sum + (LAST_TERM - k) * term;
+    let (mut term, mut sum) = (TERM_UNIT, TERM_UNIT);
+    for k in 0..LAST_TERM {
+        let product = up(term * y);
+        if k >= SETTLED_FROM && product <= 1 {
+            sum += (LAST_TERM - k) * product;
+            break;
         }
+        term = product.div_ceil(k + 1 + shift);
+        sum += term;
     }
-    sum
+    sum.div_ceil(GUARD)
 }
 
 fn factors(p: &Platform, weight: u64) -> Factors {

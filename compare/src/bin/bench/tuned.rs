@@ -11,6 +11,8 @@ use compare::types::{Job, Platform, MAX_TASKS};
 const SHIFT: u32 = 24;
 const ONE: u64 = 1 << SHIFT;
 const EXPONENT_LIMIT: u64 = 1 << 26;
+/// Units of 2^-30 in one of 2^-24.
+const GUARD: u64 = 64;
 /// 'None yet', and any time above the limit.
 const NONE: u64 = 1 << 34;
 
@@ -47,22 +49,24 @@ fn up(p: u64) -> u64 {
     (p + (ONE - 1)) >> SHIFT
 }
 
-/// 33 terms; dividing by 2^24 first and by k next rounds up the same way, and
-/// leaves a 32-bit division. Once a term is 1 or 0 and y is at most 2^24, all
-/// later terms equal it.
+/// 33 terms in units of 2^-30; dividing by 2^24 first and by k next rounds up
+/// the same way. Once a product is 1 or 0 and y is at most 2^24, all later terms
+/// equal it; not tested before k is 5, so that the first divisors are constants.
 #[inline]
-fn sum(y: u64, first: u32) -> u64 {
-    let mut term = ONE;
-    let mut total = ONE;
-    let last = first + 31;
-    for k in first..=last {
-        term = u64::from((up(term * y) as u32).div_ceil(k));
-        total += term;
-        if term <= 1 && y <= ONE {
-            return total + term * u64::from(last - k);
+fn sum(y: u64, first: u64) -> u64 {
+    let mut term = ONE * GUARD;
+    let mut total = term;
+    let end = first + 32;
+    for k in first..end {
+        let product = up(term * y);
+        if k >= 5 && product <= 1 && y <= ONE {
+            total += product * (end - k);
+            break;
         }
+        term = product.div_ceil(k);
+        total += term;
     }
-    total
+    total.div_ceil(GUARD)
 }
 
 #[inline]

@@ -1,145 +1,31 @@
--- `growth::growth` meets its contract. The loop's invariant: `term` is the term k, and `sum` the sum of the terms up to it. Every such sum is below
--- the cap of `Terms.antt`, which keeps each product and sum within 64 bits. A settled term stands for those left
--- (`settled-sum`). The measure is the number of terms left.
--- Assumes nothing.
-use mathlib.Core.Bool.{true, false≢true}
-use mathlib.Core.Path.{_≡_, refl, sym, _∙_}
-use Prim.Native.Nat.{ℕ, _+_, _-_, _*_, _^_, _≤_, _<_}
-use native.Mathlib.Nat.{le-trans, le-of-eq, mul-le-mul, mul-le-mul-left}
-use native.Mathlib.Numerals.{add-one}
-use native.Mathlib.Decide.{decLe}
+-- `growth::growth` meets its contract: up to the limit it is the sum of the terms, which the cap of `Terms.antt` keeps within 64 bits, divided by 64 and
+-- rounded up. Assumes nothing.
+use mathlib.Core.Path.{_≡_, sym, _∙_}
+use native.Mathlib.Nat.{le-refl, le-trans, le-of-eq}
 use native.Mathlib.Omega.{arith}
-use borrow.Author.Tests.{le-leb, lt-leb}
 use borrow.Author.Needs.{needs}
-use Rattle.units.specs.Unit.{unit, exponentLimit}
-use Rattle.growth.specs.Growth.{lastTerm, ceilDiv, term, termSum, growthSum}
-use Rattle.growth.specs.Working.Settled.{settledFrom, settled}
-use Rattle.growth.proofs.Terms.{term-le-sum, termSum-cap, growth-within, growth-above}
-use Rattle.growth.proofs.Settled.{settled-sum}
+use Rattle.growth.specs.Growth.{lastTerm, ceilDiv, growthSum}
+use Rattle.growth.proofs.Terms.{termSum-cap, growth-within, growth-above}
 use Rattle.growth.proofs.growth.Statement.{statement}
 use Rattle.growth.proofs.growth.Tie as tie
 
--- t is the term k, and sum the sum of the terms 0 to k
-abbrev UpTo : (s y t sum k : ℕ) → Type 0
-UpTo s y t sum k = (k ≤ lastTerm) × (t ≡ term s y k) × (sum ≡ termSum s y k)
-
-up-to-next : (s y t sum k r : ℕ) → k < lastTerm → UpTo s y t sum k → r ≡ ceilDiv (t * y) ((k + 1 + s) * unit) → UpTo s y r (sum + r) (k + 1)
-unfolding term termSum
-up-to-next s y t sum k r more at given =
-    let next : r ≡ term s y (k + 1) = rw (given, at .1, add-one k) in
-    (omega arith, next, rw (at .2, next, add-one k))
-
-product-cap : (s y t sum k : ℕ) → y ≤ exponentLimit → UpTo s y t sum k → t * y ≤ 55 * 2 ^ 50
-product-cap s y t sum k within at =
-    mul-le-mul (le-trans (le-of-eq (at .1)) (le-trans (term-le-sum s y k) (termSum-cap s y k (at .0) within))) within
-
-sum-cap : (s y t sum k : ℕ) → y ≤ exponentLimit → UpTo s y t sum k → sum ≤ 55 * 2 ^ 24
-sum-cap s y t sum k within at = le-trans (le-of-eq (at .2)) (termSum-cap s y k (at .0) within)
-
--- a settled term is 0 or 1, and not before the third
-settled-small : (k t : ℕ) → settled k t ≡ true → (settledFrom ≤ k) × (t ≤ 1)
-unfolding settled
-settled-small k t e = go (decLe settledFrom k) (decLe t 1)
-  where
-    go : Dec (settledFrom ≤ k) → Dec (t ≤ 1) → (settledFrom ≤ k) × (t ≤ 1)
-    go (yes a) (yes b) = (a, b)
-    go (yes a) (no b) = absurd (false≢true (rw (le-leb settledFrom k a, lt-leb t 1 (omega arith)) at e))
-    go (no a) b = absurd (false≢true (rw (lt-leb settledFrom k (omega arith)) at e))
-
-rest-cap : (k t : ℕ) → settled k t ≡ true → (lastTerm - k) * t ≤ lastTerm
-rest-cap k t e = omega (arith, mul-le-mul-left (lastTerm - k) (settled-small k t e .1))
-
-abbrev Inv-loop : tie.InvT-loop
-Inv-loop shift y term₀ sum₀ k₀ t sum k = UpTo shift y t sum k
-
-abbrev μ-loop : tie.MeasureT-loop
-μ-loop shift y term₀ sum₀ k₀ t sum k = lastTerm - k
-
-returns : tie.Need-returns Inv-loop μ-loop
+returns : tie.Need-returns
 returns c = omega (arith, growth-above (c .before .args .shift) (c .before .args .y) (omega arith))
 
-loop-holds : tie.Need-loop-holds Inv-loop μ-loop
-unfolding term termSum
-loop-holds c = (omega arith, refl, refl)
+term-sum-requires : tie.Need-term-sum-requires
+term-sum-requires c κs = search needs
 
-is-settled-requires : tie.Need-is-settled-requires Inv-loop μ-loop
-is-settled-requires c κs = search needs
+sub-result : tie.Need-sub-result
+sub-result c = search needs
 
-sub-result : tie.Need-sub-result Inv-loop μ-loop
-sub-result c = omega arith
-
-mul-result : tie.Need-mul-result Inv-loop μ-loop
-mul-result c = omega (arith, rest-cap _ _ (sym (c .before .is-settled .ensures) ∙ c .if2 .taken))
-
-add-result : tie.Need-add-result Inv-loop μ-loop
+add-result : tie.Need-add-result
 add-result c =
-    omega (arith, sum-cap _ _ _ _ _ (omega arith) (c .before .before .before .loop .inv), rest-cap _ _ (sym (c .before .is-settled .ensures) ∙ c .if2 .taken))
+    let args = c .before .before .args in
+    omega (arith, termSum-cap (args .shift) (args .y) lastTerm (le-refl lastTerm) (omega arith), c .term-sum .ensures)
 
-returns-2 : tie.Need-returns-2 Inv-loop μ-loop
-returns-2 c =
-    let inv = c .before .before .before .loop .inv in
-    let small = settled-small _ _ (sym (c .before .is-settled .ensures) ∙ c .if2 .taken) in
-    rw (inv .1, inv .2)
-    (settled-sum _ _ (omega arith) _ (small .0) (inv .0) (rw (inv .1) at (small .1)) ∙ sym (growth-within _ _ (omega arith)))
-
-add-k : tie.Need-add-k Inv-loop μ-loop
-add-k c = omega arith
-
-mul-ceil-div : tie.Need-mul-ceil-div Inv-loop μ-loop
-mul-ceil-div c =
-    let loop = c .before .before .before .loop in
-    omega (arith, product-cap _ _ _ _ _ (omega arith) (loop .inv))
-
-add-ceil-div : tie.Need-add-ceil-div Inv-loop μ-loop
-add-ceil-div c = omega arith
-
-mul-ceil-div-2 : tie.Need-mul-ceil-div-2 Inv-loop μ-loop
-mul-ceil-div-2 c = omega arith
-
-ceil-div-requires : tie.Need-ceil-div-requires Inv-loop μ-loop
-ceil-div-requires c κs =
-    let loop = c .before .before .before .loop in
-    let cap = product-cap _ _ _ _ _ (omega arith) (loop .inv) in
-    record { positive = omega arith; room = omega arith }
-
-add-sum : tie.Need-add-sum Inv-loop μ-loop
-add-sum c =
-    let at-loop = c .before .before .before .before in
-    omega (arith, sum-cap _ _ _ _ _ (omega arith) (up-to-next _ _ _ _ _ _ (omega arith) (at-loop .loop .inv) (c .ceil-div .ensures)))
-
-loop-less : tie.Need-loop-less Inv-loop μ-loop
-loop-less c = omega arith
-
-loop-again : tie.Need-loop-again Inv-loop μ-loop
-loop-again c =
-    let loop = c .before .before .before .before .loop in
-    up-to-next _ _ _ _ _ _ (omega arith) (loop .inv) (c .ceil-div .ensures)
-
-returns-3 : tie.Need-returns-3 Inv-loop μ-loop
-unfolding growthSum
-returns-3 c =
-    let at-end : c .before .loop .k ≡ lastTerm = omega arith in
-    rw at-end at (c .before .loop .inv .2) ∙ sym (growth-within _ _ (omega arith))
+returns-2 : tie.Need-returns-2
+unfolding growthSum ceilDiv
+returns-2 c = rw (c .term-sum .ensures) (sym (growth-within _ _ (omega arith)))
 
 pub growth-spec : {M : Type 1} → statement M
-growth-spec =
-    tie.close
-    (tie.spec
-    Inv-loop
-    μ-loop
-    returns
-    loop-holds
-    is-settled-requires
-    sub-result
-    mul-result
-    add-result
-    returns-2
-    add-k
-    mul-ceil-div
-    add-ceil-div
-    mul-ceil-div-2
-    ceil-div-requires
-    add-sum
-    loop-less
-    loop-again
-    returns-3)
+growth-spec = tie.close (tie.spec returns term-sum-requires sub-result add-result returns-2)

@@ -1,10 +1,11 @@
--- How a sum is cut short: a term of 0 or 1 from the third on stands for all later ones (`settled-sum`).
+-- How a sum is cut short: from the fourth term on, where the product of a term with y is 0 or 1, so is every later term (`settled-sum`).
 use Prim.Native.Nat.{ℕ}
 use mathlib.Core.Bool.{Bool, _&&_}
 use lib.Dec.{leb}
 
 abbrev pub settledFrom : ℕ
-settledFrom = 3
+settledFrom = 4
 
+-- p is the product of the term k with y, divided by 2^24 and rounded up
 unfoldable pub settled : ℕ → ℕ → Bool
-settled k t = leb settledFrom k && leb t 1
+settled k p = leb settledFrom k && leb p 1
