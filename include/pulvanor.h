@@ -96,7 +96,8 @@ struct pulvanor_outcome {
     struct pulvanor_run run;
 };
 
-/* G(y) and H(y), in units of 2^-24; 0 for y above 2^26, which no sum equals. */
+/* G(y) and H(y) of document 01 with request 103, in units of 2^-24: at least 2^24 times the exact sum of the 33
+   series terms, and less than 2 above it; 0 for y above 2^26, which no sum equals. */
 uint64_t pulvanor_growth(uint64_t y);
 uint64_t pulvanor_mean_growth(uint64_t y);
 
@@ -114,8 +115,8 @@ struct pulvanor_found pulvanor_lookup(const uint8_t *sheet, size_t sheet_length,
    parts, since a recovery at the seam has a cost: plan the joined sheet. */
 struct pulvanor_joined pulvanor_join(const uint8_t *first, size_t first_length, const uint8_t *second, size_t second_length, uint8_t *buffer, size_t buffer_length);
 
-/* The time of the sheet under these marks, D(n) of document 01 with request 102 (a recovery from disk costs
-   R_D + R_M, and 0 at the start). Refusals 1 to 10 and 13. */
+/* The time of the sheet under these marks, D(n) of document 01 with requests 102 (a recovery from disk costs
+   R_D + R_M, and 0 at the start) and 103 (the growth sums above). Refusals 1 to 10 and 13. */
 struct pulvanor_answer pulvanor_price(const uint8_t *sheet, size_t sheet_length, const uint8_t *marks, size_t marks_length);
 
 /* The least time of all allowed settings of the sheet; the setting's marks, one byte a task, are the first n

@@ -42,8 +42,8 @@ fn sums_lie_within_two_units() {
         for y in arguments() {
             let (least, most) = exact(y, shift);
             let given = sum(y) << FINE;
-            assert!(given >= least, "below at {y}");
-            assert!(given < most + (2 << FINE), "2 units above at {y}");
+            assert!(given >= most, "below at {y}");
+            assert!(given < least + (2 << FINE), "2 units above at {y}");
             past_one += u32::from(given > most + (1 << FINE));
         }
         assert!(past_one > 1000, "{past_one} sums lie more than 1 unit above");

@@ -2,6 +2,10 @@
 
 /// One, in units of 2^-24.
 pub const ONE: u128 = 1 << 24;
+/// One, in the units of 2^-30 that terms are carried in.
+const FINE_ONE: u128 = 1 << 30;
+/// What the whole sum is divided by.
+const FINER: u128 = 64;
 /// The largest argument of a sum, and the exponent limit of a stretch.
 pub const EXPONENT_LIMIT: u128 = 1 << 26;
 
@@ -13,13 +17,13 @@ fn sum(y: u128, shift: u128) -> u128 {
     if y > EXPONENT_LIMIT {
         return 0;
     }
-    let mut term = 1 << 30;
+    let mut term = FINE_ONE;
     let mut total = term;
     for k in 1..=32u128 {
         term = (term * y).div_ceil((k + shift) * ONE);
         total += term;
     }
-    total.div_ceil(64)
+    total.div_ceil(FINER)
 }
 
 /// G(y), for e^z.

@@ -1,5 +1,5 @@
--- The starred examples of document 01: one list of a number that the definitions give and the number that 01 prints, and one test over it. Growths and
--- times are those of request 103, worked out anew.
+-- The starred examples of document 01, growths and times worked out anew by request 103: one list of a number that the definitions give and the number
+-- expected, and one test over it.
 use Prim.Native.Nat.{ℕ, _+_, _^_}
 use mathlib.Core.Bool.{Bool, true, _&&_}
 use mathlib.Core.List.{List, [], _∷_}
@@ -37,11 +37,11 @@ runOfA =
 pub record Example : Type 0 where
   -- what the definitions give
   pub given : ℕ
-  -- what document 01 prints, or has come to with request 103
-  pub printed : ℕ
+  -- what document 01 prints, or request 103 makes of it
+  pub expected : ℕ
 
 abbrev example : ℕ → ℕ → Example
-example given printed = record { given = given; printed = printed }
+example given expected = record { given = given; expected = expected }
 
 unfoldable pub starred : List Example
 starred =
@@ -64,7 +64,7 @@ starred =
     ∷ example (runOfA .recovery) 1000
     ∷ []
 
--- each example gives what is printed
+-- each example gives what is expected
 unfoldable pub allAgree : List Example → Bool
 allAgree [] = true
-allAgree (e ∷ es) = eqb (e .given) (e .printed) && allAgree es
+allAgree (e ∷ es) = eqb (e .given) (e .expected) && allAgree es

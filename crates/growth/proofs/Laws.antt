@@ -39,7 +39,7 @@ pub H-bound : (y : ℕ) → y ≤ exponentLimit → WithinBound (H y) (exactSum 
 unfolding H
 H-bound = growth-bound 1
 
--- the bound leaves two numbers in a row: two that keep it differ by at most 1
+-- no wider bound says this: of whole numbers only two in a row keep it
 pub bound-close : (a b : ℕ) (exact : Fraction) → WithinBound a exact → WithinBound b exact → a ≤ b + 1
 bound-close a b exact r s =
     let below : a * exact .den < (b + boundUnits) * exact .den = omega (arith, r .below, s .at-least) in

@@ -1,20 +1,13 @@
--- From the fourth term on, y is at most the divisor. So a term of 0 or 1 there is rounded up to itself, and stands for all later ones; and a product of 0
--- or 1 makes such a term. Assumes nothing.
-use mathlib.Core.Path.{_≡_, refl, sym, _∙_}
+-- Where a term times y, divided by 2^24 and rounded up, is 0 or 1, it is each later term: a product of 1 says that y is 1 to 2^24, and makes a term of 1, whose
+-- product is 1 again; a product of 0 makes terms of 0. Assumes nothing.
+use mathlib.Core.Path.{_≡_, sym}
 use Prim.Native.Nat.{ℕ, zero, suc, _+_, _-_, _*_, _≤_, _<_}
-use native.Mathlib.Nat.{zero-add, suc-add, mul-le-mul-left}
+use native.Mathlib.Nat.{zero-add, suc-add, mul-le-mul-left, mul-le-mul-right}
 use native.Mathlib.Decide.{decLe}
 use native.Mathlib.Omega.{arith}
-use Rattle.units.specs.Unit.{unit, exponentLimit}
+use Rattle.units.specs.Unit.{unit}
 use Rattle.growth.specs.Growth.{lastTerm, ceilDiv, term, termSum}
-use Rattle.growth.specs.Working.Settled.{settledFrom}
-use Rattle.growth.proofs.Terms.{ceil-ge, ceil-le, ceil-ceil}
-
--- no term but the first is above 0 where y is 0
-term-none : (s y k : ℕ) → y ≤ 0 → 0 < k → term s y k ≤ 0
-unfolding term
-term-none s y zero h p = absurd (omega arith)
-term-none s y (suc k) h p = ceil-le (term s y k * y) ((suc k + s) * unit) 0 (omega arith) (omega (arith, mul-le-mul-left (term s y k) h))
+use Rattle.growth.proofs.Terms.{ceil-ge, ceil-lt, ceil-le, ceil-ceil}
 
 -- 0 and 1 are rounded up to themselves
 ceil-small : (p d : ℕ) → 0 < d → p ≤ 1 → ceilDiv p d ≡ p
@@ -29,55 +22,50 @@ ceil-small p d pos l = go (decLe p (ceilDiv p d))
         let gone : ceilDiv p d ≡ 0 = omega arith in
         omega (arith, rw gone at (ceil-ge p d pos))
 
-module _ (s y : ℕ) (within : y ≤ exponentLimit) where
-  settled-le : (k : ℕ) → settledFrom ≤ k → term s y (suc k) ≤ term s y k
+-- a product of 0 or 1, taken as a term, has itself as its product
+product-again : (t y p : ℕ) → p ≡ ceilDiv (t * y) unit → p ≤ 1 → p ≡ ceilDiv (p * y) unit
+product-again t y p e l = go (decLe p 0) (decLe t 0) (decLe y 0)
+  where
+    over : t * y ≤ p * unit
+    over = omega (arith, e, ceil-ge (t * y) unit (omega arith))
+
+    under : p * unit < t * y + unit
+    under = omega (arith, e, ceil-lt (t * y) unit (omega arith))
+
+    again-over : p * y ≤ ceilDiv (p * y) unit * unit
+    again-over = ceil-ge (p * y) unit (omega arith)
+
+    again-under : ceilDiv (p * y) unit * unit < p * y + unit
+    again-under = ceil-lt (p * y) unit (omega arith)
+
+    go : Dec (p ≤ 0) → Dec (t ≤ 0) → Dec (y ≤ 0) → p ≡ ceilDiv (p * y) unit
+    go (yes none) b c = omega (arith, again-under, mul-le-mul-right y none)
+    go (no a) (yes none) c = omega (arith, under, mul-le-mul-right y none)
+    go (no a) (no b) (yes none) = omega (arith, under, mul-le-mul-left t none)
+    go (no a) (no b) (no c) =
+        let one : p ≡ 1 = omega arith in
+        let itself : p * y ≡ y = rw one (omega arith) in
+        let least : 1 * y ≤ t * y = mul-le-mul-right y (omega arith) in
+        omega (arith, itself, least, over, again-over, again-under)
+
+module _ (s y p : ℕ) (small : p ≤ 1) where
+  -- the next term is such a product
+  next-term : (k : ℕ) → p ≡ ceilDiv (term s y k * y) unit → term s y (suc k) ≡ p
   unfolding term
-  settled-le k h =
-      ceil-le (term s y k * y) ((suc k + s) * unit) (term s y k) (omega arith)
-      (mul-le-mul-left (term s y k) small)
-    where
-      small : y ≤ (suc k + s) * unit
-      small = omega arith
+  next-term k e = rw (sym (ceil-ceil (term s y k * y) unit (suc k + s) (omega arith) (omega arith)), sym e) (ceil-small p (suc k + s) (omega arith) small)
 
-  reach : (k : ℕ) → term s y k * y ≤ term s y (suc k) * ((suc k + s) * unit)
-  unfolding term
-  reach k = ceil-ge (term s y k * y) ((suc k + s) * unit) (omega arith)
-
-  settled-ge : (k : ℕ) → settledFrom ≤ k → term s y k ≤ 1 → term s y k ≤ term s y (suc k)
-  settled-ge k h l = go (decLe (term s y k) (term s y (suc k)))
-    where
-      go : Dec (term s y k ≤ term s y (suc k)) → term s y k ≤ term s y (suc k)
-      go (yes a) = a
-      go (no a) =
-          let one : term s y k ≡ 1 = omega arith in
-          let gone : term s y (suc k) ≡ 0 = omega arith in
-          omega (arith, term-none s y k (omega (arith, rw (one, gone) at (reach k))) (omega arith))
-
-  settled-next : (k : ℕ) → settledFrom ≤ k → term s y k ≤ 1 → term s y (suc k) ≡ term s y k
-  settled-next k h l = omega (arith, settled-le k h, settled-ge k h l)
-
-  settled-on : (k j : ℕ) → settledFrom ≤ k → term s y k ≤ 1 → (term s y (j + k) ≡ term s y k) × (termSum s y (j + k) ≡ termSum s y k + j * term s y k)
+  -- and so are the j terms after the term k
+  later-sum : (k j : ℕ) → p ≡ ceilDiv (term s y k * y) unit → (p ≡ ceilDiv (term s y (j + k) * y) unit) × (termSum s y (j + k) ≡ termSum s y k + j * p)
   unfolding termSum
-  settled-on k zero h l = rw zero-add (refl, omega arith)
-  settled-on k (suc j) h l =
-      let before = settled-on k j h l in
-      let here : term s y (suc (j + k)) ≡ term s y k = settled-next (j + k) (omega arith) (omega (arith, before .0)) ∙ before .0 in
-      rw suc-add (here, omega (arith, here, before .1))
+  later-sum k zero e = rw zero-add (e, omega arith)
+  later-sum k (suc j) e =
+      let before = later-sum k j e in
+      let next = next-term (j + k) (before .0) in
+      let again = product-again (term s y (j + k)) y p (before .0) small in
+      rw suc-add (rw next again, omega (arith, next, before .1))
 
-  -- the next term is a product of 0 or 1, whatever the divisor
-  next-product : (k p : ℕ) → p ≡ ceilDiv (term s y k * y) unit → p ≤ 1 → term s y (suc k) ≡ p
-  unfolding term
-  next-product k p e l =
-      rw (sym (ceil-ceil (term s y k * y) unit (suc k + s) (omega arith) (omega arith)), sym e) (ceil-small p (suc k + s) (omega arith) l)
-
-  -- the whole sum from a settled term on
-  pub settled-sum : (k p : ℕ) → settledFrom ≤ k → k < lastTerm → p ≡ ceilDiv (term s y k * y) unit → p ≤ 1
-      → termSum s y k + (lastTerm - k) * p ≡ termSum s y lastTerm
-  unfolding termSum
-  settled-sum k p h more e l =
-      let left : ℕ = lastTerm - suc k in
-      let whole : left + suc k ≡ lastTerm = omega arith in
-      let next = next-product k p e l in
-      let rest = rw (whole, next) at (settled-on (suc k) left (omega arith) (omega (arith, next)) .1) in
-      let count : lastTerm - k ≡ suc left = omega arith in
-      rw count (omega (arith, rest))
+  -- the whole sum, where the product of the term k is 0 or 1
+  pub settled-sum : (k : ℕ) → k ≤ lastTerm → p ≡ ceilDiv (term s y k * y) unit → termSum s y k + (lastTerm - k) * p ≡ termSum s y lastTerm
+  settled-sum k le e =
+      let whole : lastTerm - k + k ≡ lastTerm = omega arith in
+      sym (rw whole at (later-sum k (lastTerm - k) e .1))

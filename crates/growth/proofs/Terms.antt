@@ -2,7 +2,7 @@
 -- the dividend and falls with the divisor; by induction each term, and each sum of terms, grows with y and falls with the shift.
 -- So every sum is at most that of shift 0 at the exponent limit, which is computed. Assumes nothing.
 use mathlib.Core.Path.{_≡_}
-use Prim.Native.Nat.{ℕ, zero, suc, _+_, _-_, _*_, _^_, _≤_, _<_}
+use Prim.Native.Nat.{ℕ, zero, suc, _+_, _-_, _*_, _≤_, _<_}
 use native.Mathlib.Nat.{le-refl, le-trans, zero-add, suc-add, add-le-add, mul-le-mul, mul-le-mul-left, mul-le-mul-right, mul-pos, lt-of-mul-lt-mul-right, lt-div-mul-add, div-mul-le-self}
 use native.Mathlib.Omega.{arith}
 use borrow.Author.Tests.{le-leb, lt-leb}

@@ -13,7 +13,7 @@ lastTerm = 32
 abbrev pub termUnit : ℕ
 termUnit = 2 ^ 30
 
--- 64 of these make a unit of 2^-24 (six guard bits)
+-- 64 units of 2^-30 make one of 2^-24 (six guard bits)
 abbrev pub guard : ℕ
 guard = 64
 
@@ -26,7 +26,7 @@ unfoldable pub term : ℕ → ℕ → ℕ → ℕ
 term shift y zero = termUnit
 term shift y (suc k) = ceilDiv (term shift y k * y) ((suc k + shift) * unit)
 
--- t_0 + t_1 + .. + t_k
+-- t_0 + t_1 + .. + t_k, in units of 2^-30
 unfoldable pub termSum : ℕ → ℕ → ℕ → ℕ
 termSum shift y zero = term shift y zero
 termSum shift y (suc k) = termSum shift y k + term shift y (suc k)
@@ -74,7 +74,7 @@ seriesSum shift y (suc k) = addFraction (seriesSum shift y k) (seriesTerm shift 
 unfoldable pub exactSum : ℕ → ℕ → Fraction
 exactSum shift y = seriesSum shift y lastTerm
 
--- how far a sum may lie above the exact one, in units of 2^-24
+-- a sum lies less than this above the exact one, in units of 2^-24
 abbrev pub boundUnits : ℕ
 boundUnits = 2
 

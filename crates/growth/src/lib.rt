@@ -1,21 +1,21 @@
 // The growth sums G and H of document 01 with request 103, in units of 2^-24. They know nothing of tasks or marks.
+ghost use mathlib.Core.Bool.{true};
 ghost use mathlib.Core.Path.{_≡_};
 ghost use Prim.Native.Nat.{_≤_};
 ghost use Rattle.growth.specs.Growth;
 ghost use Rattle.growth.specs.Working.Ready.{ReadyToDivide, ReadyToSum};
-ghost use Rattle.growth.specs.Working.Settled.{settled};
 use units::EXPONENT_LIMIT;
 use units::UNIT;
 
 const LAST_TERM: u64 = 32;
 
-// The third would do as well; but the divisors of the first terms are constants in compiled code, and it is quicker to work these out than to ask.
+// Any term would do; but the divisors of the first terms are constants in compiled code, and it is quicker to work these out than to ask.
 const SETTLED_FROM: u64 = 4;
 
 // 1, in the units of 2^-30 that terms are carried in.
 const TERM_UNIT: u64 = 1 << 30;
 
-// How many of them make a unit of 2^-24.
+// 64 units of 2^-30 make one of 2^-24.
 const GUARD: u64 = 64;
 
 // n / d rounded up.
@@ -26,9 +26,9 @@ fn ceil_div(n: u64, d: u64) -> u64
     (n + (d - 1)) / d
 }
 
-// From the fourth term on, where the product of a term with y is 0 or 1, so is every later term.
+// A term times y, divided by 2^24 and rounded up, is 0 or 1: then so is each later term.
 fn is_settled(k: u64, product: u64) -> bool
-    ensures { λ r. ⌜ r ≡ settled k product ⌝ }
+    ensures { λ r. ⌜ (r ≡ true → product ≤ 1) ⌝ }
 {
     if k < SETTLED_FROM {
         return false;
@@ -36,7 +36,7 @@ fn is_settled(k: u64, product: u64) -> bool
     product <= 1
 }
 
-// The terms 0 to 32 added, in units of 2^-30. Dividing by 2^24, which is a shift, and then by k + shift rounds up to the same as dividing at once.
+// The terms 0 to 32 added, in units of 2^-30. Dividing by 2^24, which takes no division, and then by k + shift rounds up to the same as dividing at once.
 fn term_sum(shift: u64, y: u64) -> u64
     requires { ⌜ ReadyToSum shift y ⌝ }
     ensures { λ r. ⌜ r ≡ Growth.termSum shift y Growth.lastTerm ⌝ }

@@ -60,7 +60,7 @@ fn up(p: u64) -> u64 {
 }
 
 /// 33 terms; dividing by 2^24 first and by k + shift next rounds up the same
-/// way. From the fourth on, a product of 1 or 0 stands for all later terms.
+/// way. From term 4 on, a product of 1 or 0 stands for all later terms.
 fn growth(shift: u64, y: u64) -> u64 {
     if y > EXPONENT_LIMIT {
         return 0;

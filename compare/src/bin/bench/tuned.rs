@@ -13,6 +13,9 @@ const ONE: u64 = 1 << SHIFT;
 const EXPONENT_LIMIT: u64 = 1 << 26;
 /// Units of 2^-30 in one of 2^-24.
 const GUARD: u64 = 64;
+const LAST_TERM: u64 = 32;
+/// Divisors up to here are constants, and it is quicker to divide than to test.
+const TESTED_FROM: u64 = 5;
 /// 'None yet', and any time above the limit.
 const NONE: u64 = 1 << 34;
 
@@ -50,16 +53,15 @@ fn up(p: u64) -> u64 {
 }
 
 /// 33 terms in units of 2^-30; dividing by 2^24 first and by k next rounds up
-/// the same way. Once a product is 1 or 0 and y is at most 2^24, all later terms
-/// equal it; not tested before k is 5, so that the first divisors are constants.
+/// the same way. Once a product is 1 or 0, all later terms equal it.
 #[inline]
 fn sum(y: u64, first: u64) -> u64 {
     let mut term = ONE * GUARD;
     let mut total = term;
-    let end = first + 32;
+    let end = first + LAST_TERM;
     for k in first..end {
         let product = up(term * y);
-        if k >= 5 && product <= 1 && y <= ONE {
+        if k >= TESTED_FROM && product <= 1 {
             total += product * (end - k);
             break;
         }

@@ -1,7 +1,7 @@
 -- `growth::growth` meets its contract: up to the limit it is the sum of the terms, which the cap of `Terms.antt` keeps within 64 bits, divided by 64 and
 -- rounded up. Assumes nothing.
-use mathlib.Core.Path.{_≡_, sym, _∙_}
-use native.Mathlib.Nat.{le-refl, le-trans, le-of-eq}
+use mathlib.Core.Path.{sym}
+use native.Mathlib.Nat.{le-refl}
 use native.Mathlib.Omega.{arith}
 use borrow.Author.Needs.{needs}
 use Rattle.growth.specs.Growth.{lastTerm, ceilDiv, growthSum}

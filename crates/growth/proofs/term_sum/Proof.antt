@@ -2,19 +2,15 @@
 -- the cap of `Terms.antt`, which keeps each product and sum within 64 bits. Two divisions make the next term (`ceil-ceil`), and a settled product is
 -- each of the terms left (`settled-sum`). The measure is the number of terms left.
 -- Assumes nothing.
-use mathlib.Core.Bool.{true, false≢true}
-use mathlib.Core.Path.{_≡_, refl, sym, _∙_}
+use mathlib.Core.Path.{_≡_, refl}
 use Prim.Native.Nat.{ℕ, _+_, _-_, _*_, _≤_, _<_}
 use native.Mathlib.Nat.{le-trans, le-of-eq, mul-le-mul, mul-le-mul-left}
 use native.Mathlib.Numerals.{add-one}
-use native.Mathlib.Decide.{decLe}
 use native.Mathlib.Omega.{arith}
-use borrow.Author.Tests.{le-leb, lt-leb}
 use borrow.Author.Needs.{needs}
 use Rattle.units.specs.Unit.{unit, exponentLimit}
 use Rattle.units.specs.Working.Caps.{growthCap}
 use Rattle.growth.specs.Growth.{lastTerm, termUnit, ceilDiv, term, termSum}
-use Rattle.growth.specs.Working.Settled.{settledFrom, settled}
 use Rattle.growth.proofs.Terms.{ceil-lt, ceil-ceil, term-le-sum, termSum-cap}
 use Rattle.growth.proofs.Settled.{settled-sum}
 use Rattle.growth.proofs.term_sum.Statement.{statement}
@@ -31,28 +27,19 @@ up-to-next s y t sum k p r more at product quotient =
     let next : r ≡ term s y (k + 1) = rw (once, at .1, add-one k) in
     (omega arith, next, rw (at .2, next, add-one k))
 
-product-cap : (s y t sum k : ℕ) → y ≤ exponentLimit → UpTo s y t sum k → t * y ≤ growthCap * termUnit * exponentLimit
-product-cap s y t sum k within at =
+dividend-cap : (s y t sum k : ℕ) → y ≤ exponentLimit → UpTo s y t sum k → t * y ≤ growthCap * termUnit * exponentLimit
+dividend-cap s y t sum k within at =
     mul-le-mul (le-trans (le-of-eq (at .1)) (le-trans (term-le-sum s y k) (termSum-cap s y k (at .0) within))) within
 
-quotient-cap : (s y t sum k p : ℕ) → y ≤ exponentLimit → UpTo s y t sum k → p ≡ ceilDiv (t * y) unit → p ≤ growthCap * termUnit * exponentLimit
-quotient-cap s y t sum k p within at e = omega (arith, e, product-cap s y t sum k within at, ceil-lt (t * y) unit (omega arith))
+product-cap : (s y t sum k p : ℕ) → y ≤ exponentLimit → UpTo s y t sum k → p ≡ ceilDiv (t * y) unit → p ≤ growthCap * termUnit * exponentLimit
+product-cap s y t sum k p within at e = omega (arith, e, dividend-cap s y t sum k within at, ceil-lt (t * y) unit (omega arith))
 
 sum-cap : (s y t sum k : ℕ) → y ≤ exponentLimit → UpTo s y t sum k → sum ≤ growthCap * termUnit
 sum-cap s y t sum k within at = le-trans (le-of-eq (at .2)) (termSum-cap s y k (at .0) within)
 
--- a settled product is 0 or 1, and not before the fourth term
-settled-small : (k t : ℕ) → settled k t ≡ true → (settledFrom ≤ k) × (t ≤ 1)
-unfolding settled
-settled-small k t e = go (decLe settledFrom k) (decLe t 1)
-  where
-    go : Dec (settledFrom ≤ k) → Dec (t ≤ 1) → (settledFrom ≤ k) × (t ≤ 1)
-    go (yes a) (yes b) = (a, b)
-    go (yes a) (no b) = absurd (false≢true (rw (le-leb settledFrom k a, lt-leb t 1 (omega arith)) at e))
-    go (no a) b = absurd (false≢true (rw (lt-leb settledFrom k (omega arith)) at e))
-
-rest-cap : (k t : ℕ) → settled k t ≡ true → (lastTerm - k) * t ≤ lastTerm
-rest-cap k t e = omega (arith, mul-le-mul-left (lastTerm - k) (settled-small k t e .1))
+-- the terms left of a settled sum
+rest-cap : (k p : ℕ) → p ≤ 1 → (lastTerm - k) * p ≤ lastTerm
+rest-cap k p small = omega (arith, mul-le-mul-left (lastTerm - k) small)
 
 abbrev Inv-loop : tie.InvT-loop
 Inv-loop shift y term₀ sum₀ k₀ t sum k = UpTo shift y t sum k
@@ -65,11 +52,11 @@ unfolding term termSum
 loop-holds c = (omega arith, refl, refl)
 
 mul-ceil-div : tie.Need-mul-ceil-div Inv-loop μ-loop
-mul-ceil-div c = omega (arith, product-cap _ _ _ _ _ (omega arith) (c .before .loop .inv))
+mul-ceil-div c = omega (arith, dividend-cap _ _ _ _ _ (omega arith) (c .before .loop .inv))
 
 ceil-div-requires : tie.Need-ceil-div-requires Inv-loop μ-loop
 ceil-div-requires c κs =
-    let cap = product-cap _ _ _ _ _ (omega arith) (c .before .loop .inv) in
+    let cap = dividend-cap _ _ _ _ _ (omega arith) (c .before .loop .inv) in
     record { positive = omega arith; room = omega arith }
 
 is-settled-requires : tie.Need-is-settled-requires Inv-loop μ-loop
@@ -79,19 +66,21 @@ sub-result : tie.Need-sub-result Inv-loop μ-loop
 sub-result c = omega arith
 
 mul-result : tie.Need-mul-result Inv-loop μ-loop
-mul-result c = omega (arith, rest-cap _ _ (sym (c .before .is-settled .ensures) ∙ c .if1 .taken))
+mul-result c =
+    let loop = c .before .before .before .before .loop in
+    omega (arith, rest-cap (loop .k) _ (c .before .is-settled .ensures (c .if1 .taken)))
 
 add-result : tie.Need-add-result Inv-loop μ-loop
 add-result c =
     let loop = c .before .before .before .before .loop in
-    omega (arith, sum-cap _ _ _ _ _ (omega arith) (loop .inv), rest-cap _ _ (sym (c .before .is-settled .ensures) ∙ c .if1 .taken))
+    omega (arith, sum-cap _ _ _ _ _ (omega arith) (loop .inv), rest-cap (loop .k) _ (c .before .is-settled .ensures (c .if1 .taken)))
 
 returns : tie.Need-returns Inv-loop μ-loop
 returns c =
     let inv = c .before .before .before .before .loop .inv in
     let product = c .before .before .ceil-div .ensures in
-    let small = settled-small _ _ (sym (c .before .is-settled .ensures) ∙ c .if1 .taken) in
-    rw (inv .2) (settled-sum _ _ (omega arith) _ _ (small .0) (omega arith) (rw (inv .1) at product) (small .1))
+    let small = c .before .is-settled .ensures (c .if1 .taken) in
+    rw (inv .2) (settled-sum _ _ _ small _ (inv .0) (rw (inv .1) at product))
 
 add-k : tie.Need-add-k Inv-loop μ-loop
 add-k c = omega arith
@@ -102,7 +91,7 @@ add-ceil-div c = omega arith
 ceil-div-requires-2 : tie.Need-ceil-div-requires-2 Inv-loop μ-loop
 ceil-div-requires-2 c κs =
     let loop = c .before .before .before .before .loop in
-    let cap = quotient-cap _ _ _ _ _ _ (omega arith) (loop .inv) (c .before .before .ceil-div .ensures) in
+    let cap = product-cap _ _ _ _ _ _ (omega arith) (loop .inv) (c .before .before .ceil-div .ensures) in
     record { positive = omega arith; room = omega arith }
 
 add-sum : tie.Need-add-sum Inv-loop μ-loop
