@@ -64,7 +64,13 @@ module _ (s y p : ℕ) (small : p ≤ 1) where
       let again = product-again (term s y (j + k)) y p (before .0) small in
       rw suc-add (rw next again, omega (arith, next, before .1))
 
-  -- the whole sum, where the product of the term k is 0 or 1
+  -- the last term, where the product of the term k is 0 or 1
+  pub settled-term : (k : ℕ) → k < lastTerm → p ≡ ceilDiv (term s y k * y) unit → p ≡ term s y lastTerm
+  settled-term k more e =
+      let whole : suc (lastTerm - suc k + k) ≡ lastTerm = omega arith in
+      sym (rw whole at (next-term (lastTerm - suc k + k) (later-sum k (lastTerm - suc k) e .0)))
+
+  -- and the whole sum
   pub settled-sum : (k : ℕ) → k ≤ lastTerm → p ≡ ceilDiv (term s y k * y) unit → termSum s y k + (lastTerm - k) * p ≡ termSum s y lastTerm
   settled-sum k le e =
       let whole : lastTerm - k + k ≡ lastTerm = omega arith in

@@ -1,16 +1,16 @@
 // The growth sums G and H of document 01 with request 103, in units of 2^-24. They know nothing of tasks or marks.
-ghost use mathlib.Core.Bool.{true};
 ghost use mathlib.Core.Path.{_≡_};
 ghost use Prim.Native.Nat.{_≤_};
 ghost use Rattle.growth.specs.Growth;
-ghost use Rattle.growth.specs.Working.Ready.{ReadyToDivide, ReadyToSum};
+ghost use Rattle.growth.specs.Working.Divide.{ReadyToDivide};
+ghost use Rattle.growth.specs.Working.Sums.{ReadyToAdd, Reaches};
 use units::EXPONENT_LIMIT;
 use units::UNIT;
 
 const LAST_TERM: u64 = 32;
 
-// Any term would do; but the divisors of the first terms are constants in compiled code, and it is quicker to work these out than to ask.
-const SETTLED_FROM: u64 = 4;
+// How many terms are added apart from the others. Their divisors are constants in compiled code, which is quicker.
+const FIRST_TERMS: u64 = 5;
 
 // 1, in the units of 2^-30 that terms are carried in.
 const TERM_UNIT: u64 = 1 << 30;
@@ -26,34 +26,41 @@ fn ceil_div(n: u64, d: u64) -> u64
     (n + (d - 1)) / d
 }
 
-// A term times y, divided by 2^24 and rounded up, is 0 or 1: then so is each later term.
-fn is_settled(k: u64, product: u64) -> bool
-    ensures { λ r. ⌜ (r ≡ true → product ≤ 1) ⌝ }
-{
-    if k < SETTLED_FROM {
-        return false;
-    }
-    product <= 1
+// A sum under way: the term k, and the terms 0 to k added, in units of 2^-30.
+struct Partial {
+    k: u64,
+    term: u64,
+    sum: u64,
 }
 
-// The terms 0 to 32 added, in units of 2^-30. Dividing by 2^24, which takes no division, and then by k + shift rounds up to the same as dividing at once.
-fn term_sum(shift: u64, y: u64) -> u64
-    requires { ⌜ ReadyToSum shift y ⌝ }
-    ensures { λ r. ⌜ r ≡ Growth.termSum shift y Growth.lastTerm ⌝ }
+// The sum with the terms up to `last` at least. Dividing by 2^24, which takes no division, and then by k + shift rounds up to the same as dividing at once;
+// and where the first of the two gives 0 or 1, that is each later term.
+fn add_terms(from: Partial, shift: u64, y: u64, last: u64) -> Partial
+    requires { ⌜ ReadyToAdd shift y last from ⌝ }
+    ensures { λ r. ⌜ Reaches shift y last r ⌝ }
 {
-    let mut term = TERM_UNIT;
-    let mut sum = TERM_UNIT;
-    let mut k = 0;
-    while k < LAST_TERM {
+    let mut term = from.term;
+    let mut sum = from.sum;
+    let mut k = from.k;
+    while k < last {
         let product = ceil_div(term * y, UNIT);
-        if is_settled(k, product) {
-            return sum + (LAST_TERM - k) * product;
+        if product <= 1 {
+            let whole = sum + (LAST_TERM - k) * product;
+            return Partial {
+                k: LAST_TERM,
+                term: product,
+                sum: whole,
+            };
         }
         k += 1;
         term = ceil_div(product, k + shift);
         sum += term;
     }
-    sum
+    Partial {
+        k: k,
+        term: term,
+        sum: sum,
+    }
 }
 
 // Both sums: they differ in the divisor's shift alone, 0 for G and 1 for H.
@@ -64,8 +71,14 @@ fn growth(shift: u64, y: u64) -> u64
     if EXPONENT_LIMIT < y {
         return 0;
     }
-    let sum = term_sum(shift, y);
-    (sum + (GUARD - 1)) / GUARD
+    let start = Partial {
+        k: 0,
+        term: TERM_UNIT,
+        sum: TERM_UNIT,
+    };
+    let first = add_terms(start, shift, y, FIRST_TERMS);
+    let whole = add_terms(first, shift, y, LAST_TERM);
+    (whole.sum + (GUARD - 1)) / GUARD
 }
 
 // G(y): e^z in units of 2^-24, z = y / 2^24.
