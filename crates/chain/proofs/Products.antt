@@ -40,8 +40,7 @@ module _ (f : Factors) (r : Recoveries) (q : ℕ) (ready : ReadyForStretch f r q
   pub again-product : (f .both - unit) * q ≤ againTicks * unit
   again-product =
       let e : f .both - unit ≤ excessCap * unit = omega (arith, factors .cap) in
-      let l : q ≤ none = omega (arith, ready .time) in
-      omega (arith, capped (excessCap * unit) none e l)
+      omega (arith, capped (excessCap * unit) none e (ready .time))
 
   pub memory-product : (f .silent - unit) * r .memory ≤ memoryTicks * unit
   memory-product =

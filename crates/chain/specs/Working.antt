@@ -2,3 +2,4 @@
 pub mod Search
 pub mod Factors
 pub mod Same
+pub mod Walk

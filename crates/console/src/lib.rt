@@ -1,13 +1,16 @@
-// What the programs print and read: words and numbers on lines, marks as text, the sheet on standard input and marks in an argument.
+// What the programs print and read: words and numbers on lines, a plan, marks as text, the sheet on standard input and marks in an argument.
 ghost use mathlib.Core.Path.{_≡_};
 ghost use mathlib.Core.Bool.{true, false, not};
+ghost use Prim.Native.Nat.{_≤_};
 ghost use lib.ListN.{length};
 ghost use Rattle.io.specs.Counts.{Counts};
 ghost use Rattle.lists.specs.Lists.{some};
+ghost use Rattle.job.specs.Job.{taskLimit};
 ghost use Rattle.console.specs.Digits.{noDigit, TextOf, MarksOf};
 use job::TASK_LIMIT;
 use libc::STDIN_FILENO;
 use libc::STDOUT_FILENO;
+use refusals::Answer;
 
 // Linux hands a program no argument of more than 131,071 bytes.
 pub const ARGUMENT_ROOM: usize = 131_072;
@@ -100,6 +103,20 @@ pub fn numbered(word: &[u8], n: u64) {
 // The answer to a call that was refused.
 pub fn refused(number: u64) {
     numbered(b"refused", number);
+}
+
+// The answer of a planner, which wrote the marks of n tasks: the time, then one digit a task; or the number of its refusal.
+pub fn plan(answer: Answer, marks: [u8; TASK_LIMIT], n: usize)
+    requires { ⌜ (answer .number ≡ 0 → n ≤ taskLimit) ⌝ }
+{
+    if answer.number != 0 {
+        refused(answer.number);
+        return;
+    }
+    numbered(b"time", answer.time);
+    io::write_all(STDOUT_FILENO, b"marks ");
+    let text = digits(marks);
+    line(&text[..n]);
 }
 
 // How many bytes a read put at the start of its buffer, and whether it failed.

@@ -1,6 +1,5 @@
 // Reads a job sheet from standard input and prints its plan: the least time, then one digit a task; or the number of its refusal.
 use job::TASK_LIMIT;
-use libc::STDOUT_FILENO;
 use sheet::SHEET_ROOM;
 use sheet::layout::task_count;
 
@@ -8,15 +7,7 @@ use sheet::layout::task_count;
 fn show(sheet: &[u8]) {
     let mut marks = [0u8; TASK_LIMIT];
     let answer = planning::plan(sheet, &mut marks);
-    if answer.number != 0 {
-        console::refused(answer.number);
-        return;
-    }
-    console::numbered(b"time", answer.time);
-    io::write_all(STDOUT_FILENO, b"marks ");
-    let n = task_count(sheet);
-    let text = console::digits(marks);
-    console::line(&text[..n]);
+    console::plan(answer, marks, task_count(sheet));
 }
 
 fn main() {

@@ -2,30 +2,27 @@
 -- bounds.
 -- Assumes nothing.
 use Prim.Native.Nat.{ℕ, _+_, _-_, _≤_, _<_}
-use mathlib.Core.Path.{_≡_, refl, _∙_, ap}
+use mathlib.Core.Path.{_≡_, _∙_}
 use mathlib.Core.Logic.{inl, inr, _≢_}
-use mathlib.Core.Bool.{Bool, true, false, not}
 use mathlib.Core.List.{List}
 use native.Mathlib.Decide.{ℕ-discrete}
 use native.Mathlib.Omega.{arith}
-use borrow.Author.Tests.{eq-eqb, ne-eqb}
-use lib.Dec.{eqb}
 use lib.ListN.{length, getD, set, length-set}
 use lib.Seq.{getD-set-same, getD-set-other}
 use Rattle.growth.proofs.Laws.{G-cap}
 use Rattle.chain.specs.Working.Factors.{Factored}
 use Rattle.chain.specs.Working.Same.{Same}
 use Rattle.chain.specs.declared.Factors.{Factors}
-use Rattle.job.specs.Job.{total, weightAt, positions, between, stretchAllowed, exponent}
+use Rattle.job.specs.Job.{total, weightAt, positions, between, exponent}
 use Rattle.job.specs.Working.Sound.{Sound}
 use Rattle.job.specs.declared.Job.{Job}
 use Rattle.job.specs.declared.Platform.{Platform}
-use Rattle.job.proofs.Weights.{total-more, total-mono, between-range}
+use Rattle.job.proofs.Weights.{total-more, total-mono}
 use Rattle.costs.specs.Costs.{vAt, cmAt, cdAt, rdAt, rmAt}
 use Rattle.costs.specs.Stretch.{chainOf}
 use Rattle.costs.specs.Working.Factors.{factorsOf, factorsAt, ReadyForFactors}
-use Rattle.costs.proofs.Ranges.{vAt-range, cmAt-range, cdAt-range, rdAt-range, rmAt-range, factors-bounded}
-use Rattle.costs.proofs.Stretches.{S-factors, not-allowed}
+use Rattle.costs.proofs.Ranges.{cmAt-range, cdAt-range, rdAt-range, rmAt-range}
+use Rattle.costs.proofs.Stretches.{S-factors, factors-ready, both-decides, both-factored}
 use Rattle.search.specs.Working.Table.{tableLength, cmStart, cdStart, rdStart, rmStart, entryOf, column, chainIn, putPair, putCosts, PairFits, Packable, Bounded}
 use Rattle.search.specs.declared.table.Costs.{Costs}
 use Rattle.search.proofs.Tables.{
@@ -73,7 +70,7 @@ totals-between job sound sums h u v a b =
     record {
       order = rw (h .sums-at u (omega arith), h .sums-at v b) (total-mono (job .weights) u v (omega arith));
       weight = rw (h .sums-at u (omega arith), h .sums-at v b);
-      ready = record { weight-range = between-range job sound u v b; v-range = vAt-range job (sound .costs) v };
+      ready = factors-ready job sound u v b;
     }
 
 -- growth sums fit 32 bits
@@ -174,34 +171,15 @@ module _ (job : Job) (k : ℕ) (t : List ℕ) (h : TableTo job k t) (few : job .
 
 -- a full table holds the job's chain
 module _ (job : Job) (sound : Sound job) (t : List ℕ) (full : TableTo job (job .tasks + 1) t) where
-  n : ℕ
-  n = job .tasks
-
-  ready : (u v : ℕ) → v ≤ job .tasks → ReadyForFactors (between (job .weights) u v) (vAt job v)
-  ready u v h = record { weight-range = between-range job sound u v h; v-range = vAt-range job (sound .costs) v }
-
-  allowed-factored : (u v : ℕ) → u < v → v ≤ job .tasks → stretchAllowed job u v ≡ true → Factored (entryOf t u v)
-  unfolding stretchAllowed
-  allowed-factored u v a b e = rw (full .pairs u v a b) (factors-bounded (ready u v b) (job .platform) e)
-
-  -- G(y_s + y_f) is 0 just where the stretch is not allowed
-  allowed-as : (u v : ℕ) → u < v → v ≤ job .tasks → (b : Bool) → stretchAllowed job u v ≡ b → not (eqb (entryOf t u v .both) 0) ≡ b
-  allowed-as u v h l true e =
-      let f = allowed-factored u v h l e in
-      ap not (ne-eqb (entryOf t u v .both) 0 (λ z. omega (arith, f .silent, f .both)))
-  allowed-as u v h l false e =
-      ap not (eq-eqb (entryOf t u v .both) 0 (ap (λ (f : Factors). f .both) (full .pairs u v h l) ∙ not-allowed job u v e))
-
-  factored-if : (u v : ℕ) → u < v → v ≤ job .tasks → (b : Bool) → stretchAllowed job u v ≡ b → entryOf t u v .both ≢ 0 → Factored (entryOf t u v)
-  factored-if u v h l true e n = allowed-factored u v h l e
-  factored-if u v h l false e n = absurd (n (ap (λ (f : Factors). f .both) (full .pairs u v h l) ∙ not-allowed job u v e))
+  factored-if : (u v : ℕ) → u < v → v ≤ job .tasks → entryOf t u v .both ≢ 0 → Factored (entryOf t u v)
+  factored-if u v h l = rw (full .pairs u v h l) (both-factored job sound u v l)
 
   table-bounded : Bounded (job .tasks) t
   table-bounded =
       record {
         long = full .long;
         few = omega (arith, sound .few-tasks);
-        factored = λ u v a b k. factored-if u v a b (stretchAllowed job u v) refl k;
+        factored = factored-if;
         cm = λ v h. rw (full .cm v (omega arith)) (cmAt-range job (sound .costs) v);
         cd = λ v h. rw (full .cd v (omega arith)) (cdAt-range job (sound .costs) v);
         rd = λ v h. rw (full .rd v (omega arith)) (omega (arith, rdAt-range job (sound .costs) v));
@@ -212,7 +190,7 @@ module _ (job : Job) (sound : Sound job) (t : List ℕ) (full : TableTo job (job
   unfolding chainIn chainOf
   table-same =
       record {
-        allowed = λ u v a b. allowed-as u v a b (stretchAllowed job u v) refl;
+        allowed = λ u v a b. rw (full .pairs u v a b) (both-decides job sound u v b);
         stretch =
             λ u v m d Q' M' x y a b.
             rw (S-factors job u v m d Q' M', full .pairs u v a b, full .rd d (omega arith), full .rm m (omega arith));

@@ -14,16 +14,15 @@ use Rattle.chain.specs.Chain.{Chain}
 use Rattle.chain.specs.Plan.{IsPlan}
 use Rattle.chain.specs.Working.Same.{Same}
 use Rattle.chain.specs.Working.Search.{Rising, toDisk, leastD, planMarks}
+use Rattle.chain.specs.Working.Walk.{PlannedMarks}
 use Rattle.chain.proofs.Agree.{plan-agree}
 use Rattle.chain.proofs.Same.{D-same, allowed-same, same-sym, plan-same}
 use Rattle.chain.proofs.Theorems.{plan-is-least, too-slow-exactly}
-use Rattle.job.specs.Job.{taskLimit}
 use Rattle.marks.specs.Marks.{marksOf}
 use Rattle.marks.proofs.Stretches.{mark-at}
 use Rattle.search.specs.Working.Rows.{Filled}
 use Rattle.search.specs.Working.Table.{chainIn}
-use Rattle.search.specs.Working.Walk.{DiskBacks, PlannedMarks}
-use Rattle.search.proofs.Tables.{chainIn-rises}
+use Rattle.search.specs.Working.Walk.{DiskBacks}
 use Rattle.planning.specs.Promise.{AllSlow, Planned, PlansChain, PlansChecked}
 use Rattle.planning.proofs.Buffers.{written-front, written-rest, written-length}
 
@@ -35,21 +34,20 @@ module _ (c : Chain) (rises : Rising c) (n : ℕ) (h : 0 < n) where
   pub slow-none : leastD c none n < none → AllSlow c n → ⊥
   slow-none l a = omega (arith, too-slow-exactly c rises none n h .1 (λ g s. a g s))
 
-module _ (t : List ℕ) (n : ℕ) (h : 0 < n) where
   -- 'too slow' where every allowed setting is
-  pub slow-answer : (before : List ℕ) → none ≤ leastD (chainIn t) none n → PlansChain (chainIn t) n before before (refused Numbers.tooSlow)
+  pub slow-answer : (before : List ℕ) → none ≤ leastD c none n → PlansChain c n before before (refused Numbers.tooSlow)
   slow-answer before l =
       record {
         slow = λ _. record { numbered = refl; no-time = refl; untouched = refl };
-        planned = λ z. absurd (z (slow-all (chainIn t) (chainIn-rises t) n h l));
+        planned = λ z. absurd (z (slow-all l));
       }
 
   -- the plan otherwise
-  pub plan-answer : (before after l : List ℕ) (least : ℕ) → n ≤ taskLimit → n ≤ length before → PlannedMarks t n l → after ≡ take n l ++ drop n before
-      → least ≡ leastD (chainIn t) none n → least < none → PlansChain (chainIn t) n before after (accepted least)
-  plan-answer before after l least few room marks e is k =
+  pub plan-answer : (before after l : List ℕ) (least : ℕ) → n ≤ length before → PlannedMarks c none n l → after ≡ take n l ++ drop n before
+      → least ≡ leastD c none n → least < none → PlansChain c n before after (accepted least)
+  plan-answer before after l least room marks e is k =
       record {
-        slow = λ a. absurd (slow-none (chainIn t) (chainIn-rises t) n h (omega arith) a);
+        slow = λ a. absurd (slow-none (omega arith) a);
         planned =
             λ _.
             record {
@@ -62,19 +60,19 @@ module _ (t : List ℕ) (n : ℕ) (h : 0 < n) where
       }
     where
       long : n ≤ length l
-      long = omega (arith, marks .long)
+      long = marks .long
 
       front : take n after ≡ take n l
       front = rw e (written-front l before n long room)
 
-      same : (j : ℕ) → 0 < j → j ≤ n → planMarks (chainIn t) none n j ≡ marksOf (take n after) j
+      same : (j : ℕ) → 0 < j → j ≤ n → planMarks c none n j ≡ marksOf (take n after) j
       same j p q =
           sym (marks .marks j p q) ∙ sym (getD-take n l (j - 1) 0 (omega arith)) ∙ rw front (sym (mark-at (take n l) j p))
 
-      planned : IsPlan (chainIn t) n (marksOf (take n after)) least
+      planned : IsPlan c n (marksOf (take n after)) least
       planned =
-          plan-agree (planMarks (chainIn t) none n) (marksOf (take n after)) (chainIn t) n least h same
-          (rw is (plan-is-least (chainIn t) (chainIn-rises t) none n h (omega arith)))
+          plan-agree (planMarks c none n) (marksOf (take n after)) c n least h same
+          (rw is (plan-is-least c rises none n h (omega arith)))
 
 -- chains that cost the same have the same answer
 pub plans-same : (n : ℕ) (c c' : Chain) → Same n c c' → 0 < n → (before after : List ℕ) (r : Answer) → PlansChain c n before after r → PlansChain c' n before after r

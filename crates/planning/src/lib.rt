@@ -24,8 +24,8 @@ mod fill;
 
 use fill::fill;
 
-// The first n marks go to the front of the buffer, and nothing else is written.
-fn copy_marks(buffer: &mut [u8], marks: [u8; TASK_LIMIT], n: usize)
+// The first n marks go to the front of the buffer, and nothing else is written. Planners call this, with a buffer that holds n marks.
+pub fn copy_marks(buffer: &mut [u8], marks: [u8; TASK_LIMIT], n: usize)
     requires { ⌜ ReadyToCopy (now buffer) n ⌝ }
     ensures { λ _. ⌜ now (buffer .exit) ≡ take n marks ++ drop n (now (buffer .entry)) ⌝ }
 {

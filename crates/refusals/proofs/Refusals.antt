@@ -1,15 +1,15 @@
 -- 'The first condition that holds decides, and a number is given under no other': `first` gives a condition's number where it holds and
 -- none before it does, and 0 only where none holds. Assumes nothing.
 use Prim.Native.Nat.{ℕ, zero, suc, _<_}
-use mathlib.Core.Path.{_≡_, refl}
+use mathlib.Core.Path.{_≡_, refl, sym}
 use mathlib.Core.Bool.{Bool, true, false, cond, not, false≢true}
 use mathlib.Core.List.{List, [], _∷_, _++_}
-use mathlib.Core.Logic.{_⊎_, inl, inr}
+use mathlib.Core.Logic.{_⊎_, inl, inr, _≢_}
 use native.Mathlib.Nat.{eq-zero-or-pos}
 use native.Mathlib.Omega.{arith}
 use borrow.Author.Tests.{eqb-false}
 use lib.Dec.{eqb}
-use Rattle.lists.proofs.Lists.{and-holds}
+use Rattle.lists.proofs.Lists.{and-holds, or-fails}
 use Rattle.refusals.specs.Refusals.{Condition, refusal, first, has, distinct, Numbered, holdsAt, numberAt, Decides}
 
 -- the first number is not 0, and the rest are numbered
@@ -64,6 +64,16 @@ first-none cs ds e = go (eq-zero-or-pos (first cs))
     go : (first cs ≡ 0) ⊎ (0 < first cs) → first cs ≡ 0
     go (inl z) = z
     go (inr p) = absurd (omega (arith, first-stands cs ds p))
+
+-- a number that no condition has is never given
+pub first-other : (k : ℕ) (cs : List Condition) → 0 < k → has k cs ≡ false → first cs ≢ k
+unfolding first has
+first-other k [] p h e = omega arith
+first-other k (c ∷ cs) p h e = go (c .holds) e (first-other k cs p (or-fails (eqb k (c .number)) (has k cs) h .1))
+  where
+    go : (b : Bool) → cond b (c .number) (first cs) ≡ k → first cs ≢ k → ⊥
+    go true z rest = eqb-false k (c .number) (or-fails (eqb k (c .number)) (has k cs) h .0) (sym z)
+    go false z rest = rest z
 
 -- The tests of a list in their order, each with the result that its code gave: the condition holds, or those after it decide.
 pub refused-here : (k : ℕ) {r b : Bool} (cs : List Condition) → r ≡ b → r ≡ true → k ≡ first (refusal k b ∷ cs)

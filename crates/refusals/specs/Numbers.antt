@@ -61,3 +61,6 @@ overTotal = 25
 
 abbrev pub otherPlatform : ℕ
 otherPlatform = 26
+
+abbrev pub longChain : ℕ
+longChain = 27

@@ -47,6 +47,9 @@ pub const OVER_TOTAL: u64 = 25;
 // Of two sheets.
 pub const OTHER_PLATFORM: u64 = 26;
 
+// Of a sheet for the equations as printed.
+pub const LONG_CHAIN: u64 = 27;
+
 // The answer to a call: number 0 and the time, or the number of its refusal and time 0.
 #[repr(C)]
 pub struct Answer {

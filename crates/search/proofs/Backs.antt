@@ -1,44 +1,23 @@
--- The walk back over the rows: each step is a state of the theory's walk, and the step before it is the state before. Assumes nothing.
-use Prim.Native.Nat.{ℕ, zero, suc, pred, _+_, _-_, _≤_, _<_}
-use mathlib.Core.Path.{_≡_, refl, sym, _∙_}
+-- The walk back over the rows: each step is a place of the theory's walk, and the step before it is the place before. Assumes nothing.
+use Prim.Native.Nat.{ℕ, _+_, _-_, _≤_, _<_}
+use mathlib.Core.Path.{_≡_, sym, _∙_}
 use mathlib.Core.Logic.{_≢_}
 use mathlib.Core.List.{List}
-use native.Mathlib.Decide.{decLt, ℕ-discrete}
-use native.Mathlib.Nat.{suc-pred-eq-of-pos}
 use native.Mathlib.Omega.{arith}
-use borrow.Author.Tests.{eq-eqb, ne-eqb}
-use lib.Dec.{eqb}
 use lib.ListN.{length, getD, set, replicate, length-set, length-replicate}
-use lib.Seq.{getD-set-same, getD-set-other}
-use mathlib.Core.Bool.{cond}
 use Rattle.units.specs.Limits.{none}
 use Rattle.chain.specs.Time.{verification, memory, disk}
 use Rattle.chain.specs.declared.Recoveries.{Recoveries}
-use Rattle.chain.specs.Working.Search.{Cost, toVerification, toMemory, leastM, leastD, backD, backM, backQ, planTo, planMarks}
+use Rattle.chain.specs.Working.Search.{Cost, toVerification, toMemory, leastM, leastD, backD, backM, backQ}
+use Rattle.chain.specs.Working.Walk.{Placed}
 use Rattle.job.specs.Job.{taskLimit}
 use Rattle.search.specs.Working.Rows.{Filled}
 use Rattle.search.specs.Working.Table.{rdStart, rmStart, column, chainIn, arrivalAt}
-use Rattle.search.specs.Working.Walk.{Backs, DiskBacks, Walking, StepsBack, PlannedMarks, AtCopy}
+use Rattle.search.specs.Working.Walk.{Backs, DiskBacks, Walking, placeOf, StepsBack, AtCopy}
 use Rattle.search.specs.declared.walk.Walk.{Walk}
 use Rattle.search.proofs.Levels.{table-row}
-use Rattle.chain.proofs.Walk.{
-  backD-lt,
-  backD-reached,
-  backD-arrives,
-  backM-lt,
-  backM-ge,
-  backM-reached,
-  backQ-lt,
-  backQ-ge,
-  state-copy,
-  state-mark,
-  planTo-here,
-  planTo-mark,
-  planTo-memory,
-  planTo-disk,
-  planTo-start,
-  planTo-past,
-}
+use Rattle.chain.proofs.Walk.{backD-lt, backD-reached, backD-arrives, backM-lt, backM-ge, backM-reached, state-copy}
+use Rattle.chain.proofs.Placing as placing
 
 -- the memory copy m before v, where d is the last disk copy
 pub record CopyRange (t : List ℕ) (d v m : ℕ) (times : List ℕ) : Type 0 where
@@ -123,32 +102,23 @@ backs-less b cost top v row h f = record { long = f .long; backs = λ w l e. f .
 
 -- the step before w, by where the last position before v is
 module _ (t : List ℕ) (w : Walk) (walking : Walking t w) where
-  pub check-before : getD (w .checks) (w .v) 0 ≡ backQ (chainIn t) none (w .d) (w .m) (w .v)
+  check-before : getD (w .checks) (w .v) 0 ≡ backQ (chainIn t) none (w .d) (w .m) (w .v)
   unfolding backQ
   check-before = walking .checks .backs (w .v) (omega arith) (λ e. omega (arith, walking .state .m-v))
-
-  pub check-range : (w .m ≤ getD (w .checks) (w .v) 0) × (getD (w .checks) (w .v) 0 < w .v)
-  check-range =
-      rw check-before (
-        backQ-ge (chainIn t) none (w .d) (w .m) (w .v) (walking .state .m-v) (walking .state .verified),
-        backQ-lt (chainIn t) none (w .d) (w .m) (w .v) (walking .state .m-v) (walking .state .verified),
-      )
 
   pub before-mark : (u : ℕ) → u ≡ getD (w .checks) (w .v) 0 → u ≢ w .m
       → StepsBack t w (record { k = verification; d = w .d; m = w .m; v = u; times = w .times; copies = w .copies; checks = w .checks })
   before-mark u e n =
-      let q : backQ (chainIn t) none (w .d) (w .m) (w .v) ≡ u = sym check-before ∙ sym e in
-      let a : backQ (chainIn t) none (w .d) (w .m) (w .v) ≢ w .m = λ z. n (sym q ∙ z) in
+      let before = placing.before-mark (chainIn t) none (placeOf w) (walking .state) u (e ∙ check-before) n in
       record {
-        falls = omega (arith, check-range);
+        before = before;
         walking =
             λ h.
             record {
-              state = rw q at (state-mark (chainIn t) none (w .k) (w .d) (w .m) (w .v) (walking .state) a);
-              copies = filled-less (w .d) _ (w .v) u (w .times) (w .copies) (omega (arith, check-range)) (walking .copies);
-              checks = backs-less (w .m) _ (w .v) u (w .checks) (omega (arith, check-range)) (walking .checks);
+              state = before .on-way h;
+              copies = filled-less (w .d) _ (w .v) u (w .times) (w .copies) (omega (arith, before .falls)) (walking .copies);
+              checks = backs-less (w .m) _ (w .v) u (w .checks) (omega (arith, before .falls)) (walking .checks);
             };
-        marks = λ s j i. planTo-mark (chainIn t) none s (w .k) (w .d) (w .m) (w .v) j i a ∙ rw (q, ne-eqb u 0 (λ z. omega (arith, check-range)));
       }
 
   module _ (here : getD (w .checks) (w .v) 0 ≡ w .m) where
@@ -158,110 +128,42 @@ module _ (t : List ℕ) (w : Walk) (walking : Walking t w) where
     pub before-memory : (r : Walk) → w .m ≢ w .d → AtCopy t memory (w .d) (w .m) r → StepsBack t w r
     before-memory r n at =
         record {
-          falls = omega (arith, at .v-is, walking .state .m-v);
+          before = rw (at .k-is, at .d-is, at .m-is, at .v-is) (placing.before-memory (chainIn t) none (placeOf w) (walking .state) q n);
           walking = λ _. at .walking;
-          marks =
-              λ s j i.
-              planTo-memory (chainIn t) none s (w .k) (w .d) (w .m) (w .v) j i q n
-              ∙ rw (at .k-is, at .d-is, at .m-is, at .v-is, ne-eqb (w .m) 0 (λ x. omega (arith, walking .state .d-m)));
         }
 
     pub before-disk : (r : Walk) → w .m ≡ w .d → w .d ≢ 0 → AtCopy t disk (backD (chainIn t) none (w .d)) (w .d) r → StepsBack t w r
     before-disk r p n at =
         record {
-          falls = omega (arith, at .v-is, walking .state .m-v);
+          before = rw (at .k-is, at .d-is, at .m-is, at .v-is) (placing.before-disk (chainIn t) none (placeOf w) (walking .state) q p n);
           walking = λ _. at .walking;
-          marks =
-              λ s j i.
-              planTo-disk (chainIn t) none s (w .k) (w .d) (w .m) (w .v) j i q p n
-              ∙ rw (at .k-is, at .d-is, at .m-is, at .v-is, ne-eqb (w .d) 0 n);
         }
 
     pub before-start : (r : Walk) → w .m ≡ w .d → w .d ≡ 0 → r .v ≡ 0 → StepsBack t w r
     before-start r p n e =
         record {
-          falls = omega (arith, walking .state .m-v);
+          before = placing.before-start (chainIn t) none (placeOf w) (walking .state) q p n (placeOf r) e;
           walking = λ h. absurd (omega arith);
-          marks = λ s j i. planTo-start (chainIn t) none s (w .k) (w .d) (w .m) (w .v) j i q p n ∙ rw e;
         }
 
--- the marks set so far: those after w are the plan's, the others are still 0, and up to w the plan is the walk's
-pub record Placed (t : List ℕ) (n : ℕ) (w : Walk) (l : List ℕ) : Type 0 where
+-- the marks set so far, and the step that the walk stands at
+pub record PlacedAt (t : List ℕ) (n : ℕ) (w : Walk) (l : List ℕ) : Type 0 where
   pub long : length l ≡ taskLimit
-  pub within : w .v ≤ n
+  pub placed : Placed (chainIn t) none n (placeOf w) l
   pub walking : 0 < w .v → Walking t w
-  pub set-after : (j : ℕ) → w .v < j → j ≤ n → getD l (j - 1) 0 ≡ planMarks (chainIn t) none (n) j
-  pub clear : (j : ℕ) → 0 < j → j ≤ w .v → getD l (j - 1) 0 ≡ 0
-  pub steps : ℕ
-  pub enough : w .v ≤ steps
-  pub same : 0 < w .v → (j : ℕ) → 0 < j → j ≤ w .v → planMarks (chainIn t) none (n) j ≡ planTo (chainIn t) none steps (w .k) (w .d) (w .m) (w .v) j
 
-getD-zeros : (k j : ℕ) → _≡_ {A = ℕ} (getD (replicate k 0) j 0) 0
-getD-zeros zero j = refl
-getD-zeros (suc k) zero = refl
-getD-zeros (suc k) (suc j) = getD-zeros k j
-
-pub placed-first : (t : List ℕ) (n : ℕ) (w : Walk) → AtCopy t disk (backD (chainIn t) none n) n w → Placed t n w (replicate taskLimit 0)
-unfolding planMarks
-placed-first t n w at =
+pub placed-first : (t : List ℕ) (n : ℕ) (w : Walk) → n ≤ taskLimit → AtCopy t disk (backD (chainIn t) none n) n w → PlacedAt t n w (replicate taskLimit 0)
+placed-first t n w few at =
     record {
       long = length-replicate {A = ℕ} taskLimit 0;
-      within = omega (arith, at .v-is);
+      placed = rw (at .k-is, at .d-is, at .m-is, at .v-is) (placing.placed-first (chainIn t) none n taskLimit few);
       walking = λ _. at .walking;
-      set-after = λ j h k. absurd (omega (arith, at .v-is));
-      clear = λ j h k. getD-zeros taskLimit (j - 1);
-      steps = n;
-      enough = omega (arith, at .v-is);
-      same = λ h j p k. rw (at .k-is, at .d-is, at .m-is, at .v-is);
     }
 
-module _ (t : List ℕ) (n : ℕ) (w r : Walk) (l : List ℕ) (placed : Placed t n w l) (h : 0 < w .v) (few : n ≤ taskLimit) (before : StepsBack t w r) where
-  abbrev fewer : ℕ
-  fewer = pred (placed .steps)
-
-  fewer-enough : r .v ≤ fewer
-  fewer-enough =
-      let e : suc fewer ≡ placed .steps = suc-pred-eq-of-pos (omega (arith, placed .enough)) in
-      omega (arith, placed .enough, before .falls)
-
-  -- the plan below w is that of the step before
-  below-w : (j : ℕ) → 0 < j → j < w .v → planMarks (chainIn t) none (n) j ≡ cond (eqb (r .v) 0) 0 (planTo (chainIn t) none fewer (r .k) (r .d) (r .m) (r .v) j)
-  below-w j p k =
-      let e : suc (pred (placed .steps)) ≡ placed .steps = suc-pred-eq-of-pos (omega (arith, placed .enough)) in
-      placed .same h j p (omega arith) ∙ rw (← e) (before .marks (pred (placed .steps)) j (λ z. omega arith))
-
-  here : planMarks (chainIn t) none (n) (w .v) ≡ w .k
-  here = placed .same h (w .v) h (omega arith) ∙ planTo-here (chainIn t) none (placed .steps) (w .k) (w .d) (w .m) (w .v) (omega (arith, placed .enough))
-
-  between : (j : ℕ) → r .v < j → j < w .v → planMarks (chainIn t) none (n) j ≡ 0
-  between j p k = below-w j (omega arith) k ∙ go (ℕ-discrete (r .v) 0)
-    where
-      go : Dec (r .v ≡ 0) → cond (eqb (r .v) 0) 0 (planTo (chainIn t) none fewer (r .k) (r .d) (r .m) (r .v) j) ≡ 0
-      go (yes e) = rw (eq-eqb (r .v) 0 e)
-      go (no e) =
-          let s = before .walking (omega arith) .state in
-          rw (ne-eqb (r .v) 0 e) (planTo-past (chainIn t) none fewer (r .k) (r .d) (r .m) (r .v) j (omega (arith, s .d-m, s .m-v)) (omega (arith, s .m-v)) p)
-
-  room : w .v - 1 < length l
-  room = omega (arith, placed .long, placed .within)
-
-  pub placed-next : Placed t n r (set l (w .v - 1) (w .k))
-  placed-next =
-      record {
-        long = length-set l (w .v - 1) (w .k) ∙ placed .long;
-        within = omega (arith, before .falls, placed .within);
-        walking = before .walking;
-        set-after = λ j p k. after j p k (ℕ-discrete j (w .v)) (decLt (w .v) j);
-        clear = λ j p k. getD-set-other l (w .v - 1) (j - 1) (w .k) 0 (λ e. omega (arith, before .falls)) ∙ placed .clear j p (omega (arith, before .falls));
-        steps = fewer;
-        enough = fewer-enough;
-        same = λ p j q k. below-w j q (omega (arith, before .falls)) ∙ rw (ne-eqb (r .v) 0 (λ e. omega arith));
-      }
-    where
-      after : (j : ℕ) → r .v < j → j ≤ n → Dec (j ≡ w .v) → Dec (w .v < j) → getD (set l (w .v - 1) (w .k)) (j - 1) 0 ≡ planMarks (chainIn t) none (n) j
-      after j p k (yes e) d = rw e (getD-set-same l (w .v - 1) (w .k) 0 room ∙ sym here)
-      after j p k (no e) (yes d) = getD-set-other l (w .v - 1) (j - 1) (w .k) 0 (λ z. omega arith) ∙ placed .set-after j d k
-      after j p k (no e) (no d) = getD-set-other l (w .v - 1) (j - 1) (w .k) 0 (λ z. omega arith) ∙ placed .clear j (omega arith) (omega arith) ∙ sym (between j p (omega arith))
-
-pub placed-last : (t : List ℕ) (n : ℕ) (w : Walk) (l : List ℕ) → Placed t n w l → w .v ≤ 0 → PlannedMarks t n l
-placed-last t n w l placed h = record { long = placed .long; marks = λ j p k. placed .set-after j (omega arith) k }
+pub placed-next : (t : List ℕ) (n : ℕ) (w r : Walk) (l : List ℕ) → PlacedAt t n w l → 0 < w .v → StepsBack t w r → PlacedAt t n r (set l (w .v - 1) (w .k))
+placed-next t n w r l at h back =
+    record {
+      long = length-set l (w .v - 1) (w .k) ∙ at .long;
+      placed = placing.placed-next (chainIn t) none n (placeOf w) (placeOf r) l (at .placed) h (back .before);
+      walking = back .walking;
+    }

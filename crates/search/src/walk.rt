@@ -2,8 +2,9 @@
 ghost use Rattle.units.specs.Limits.{none};
 ghost use Rattle.chain.specs.Time.{disk};
 ghost use Rattle.chain.specs.Working.Search.{backD};
+ghost use Rattle.chain.specs.Working.Walk.{PlannedMarks};
 ghost use Rattle.search.specs.Working.Table.{chainIn};
-ghost use Rattle.search.specs.Working.Walk.{StepsBack, PlannedMarks, ReadyAtCopy, AtCopy, ReadyAtDisk, ReadyToStep, ReadyToWalk};
+ghost use Rattle.search.specs.Working.Walk.{StepsBack, ReadyAtCopy, AtCopy, ReadyAtDisk, ReadyToStep, ReadyToWalk};
 use crate::rows::memory_row;
 use crate::rows::verification_row;
 use crate::table::recoveries;
@@ -109,7 +110,7 @@ fn step_back(t: &[u32], backs: &[usize], w: Walk) -> Walk
 // The marks of the plan of n tasks, whose least time is below none; `backs` is of the disk row.
 pub fn plan_marks(t: &[u32], backs: &[usize], n: usize) -> [u8; TASK_LIMIT]
     requires { ⌜ ReadyToWalk (now t) n (now backs) ⌝ }
-    ensures { λ r. ⌜ PlannedMarks (now (t .entry)) n r ⌝ }
+    ensures { λ r. ⌜ PlannedMarks (chainIn (now (t .entry))) none n r ⌝ }
 {
     let mut marks = [0u8; TASK_LIMIT];
     let mut w = at_disk(t, backs, n);

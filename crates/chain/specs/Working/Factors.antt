@@ -38,7 +38,7 @@ pub record Recoverable (r : Recoveries) : Type 0 where
 pub record ReadyForStretch (f : Factors) (r : Recoveries) (q : ℕ) : Type 0 where
   pub factors : Factored f
   pub recoveries : Recoverable r
-  pub time : q < none
+  pub time : q ≤ none
 
 pub record StretchTime (f : Factors) (r : Recoveries) (q t : ℕ) : Type 0 where
   pub value : t ≡ stretchOf f r q

@@ -3,6 +3,7 @@
 use mathlib.Core.Path.{refl, sym}
 use native.Mathlib.Omega.{arith}
 use native.Mathlib.Nat.{le-trans, le-of-eq, lt-of-le-of-lt}
+use Rattle.search.proofs.Tables.{chainIn-rises}
 use Rattle.planning.proofs.Promises.{slow-answer, plan-answer, row-least, row-backs}
 use borrow.Author.Needs.{needs}
 use Rattle.planning.proofs.plan_chain.Statement.{statement}
@@ -35,7 +36,7 @@ returns c =
     let pre = c .before .before .before .before .before .before .before .before .before .pre in
     let if1 = c .before .if1 in
     let least = row-least _ _ _ _ (disk-row .ensures) in
-    rw (refused .ensures) (slow-answer _ _ (pre .some-task) _ (le-trans (if1 .taken) (le-of-eq least)))
+    rw (refused .ensures) (slow-answer _ (chainIn-rises _) _ (pre .some-task) _ (le-trans (if1 .taken) (le-of-eq least)))
 
 slice-aggregate-plan-marks : tie.Need-slice-aggregate-plan-marks
 slice-aggregate-plan-marks c = search needs
@@ -74,7 +75,7 @@ returns-2 c =
     let if1 = c .before .before .before .before .before .before .before .if1 in
     let least = row-least _ _ _ _ (disk-row .ensures) in
     rw (accepted .ensures)
-    (plan-answer _ _ (pre .some-task) _ _ _ _ (omega (arith, pre .bounded .few)) (pre .room) (plan-marks .ensures) (copy-marks .ensures) least (if1 .left))
+    (plan-answer _ (chainIn-rises _) _ (pre .some-task) _ _ _ _ (pre .room) (plan-marks .ensures) (copy-marks .ensures) least (if1 .left))
 
 pub plan-chain-spec : {M : Type 1} → statement M
 plan-chain-spec =

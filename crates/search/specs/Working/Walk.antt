@@ -1,15 +1,14 @@
 -- How the marks are found, by walking back from n to the start: what a step of the walk has, and what the place before it is.
-use Prim.Native.Nat.{ℕ, suc, _-_, _≤_, _<_}
+use Prim.Native.Nat.{ℕ, _≤_, _<_}
 use mathlib.Core.Path.{_≡_}
 use mathlib.Core.Logic.{_≢_}
-use mathlib.Core.Bool.{cond}
 use mathlib.Core.List.{List}
-use lib.Dec.{eqb}
 use lib.ListN.{length, getD}
 use Rattle.units.specs.Limits.{none}
 use Rattle.chain.specs.Time.{memory, disk}
-use Rattle.chain.specs.Working.Search.{Cost, back, toVerification, toMemory, toDisk, leastM, leastD, backM, backD, State, planTo, planMarks}
-use Rattle.job.specs.Job.{taskLimit, positions}
+use Rattle.chain.specs.Working.Search.{Cost, back, toVerification, toMemory, toDisk, leastM, leastD, backM, backD, State}
+use Rattle.chain.specs.Working.Walk.{Place, Before}
+use Rattle.job.specs.Job.{positions}
 use Rattle.search.specs.Working.Rows.{Filled}
 use Rattle.search.specs.Working.Table.{chainIn, Bounded}
 use Rattle.search.specs.declared.walk.Walk.{Walk}
@@ -29,17 +28,14 @@ pub record Walking (t : List ℕ) (w : Walk) : Type 0 where
   pub copies : Filled none (w .d) (toMemory (chainIn t) none (w .d)) (w .v) (w .times) (w .copies)
   pub checks : Backs (w .m) (toVerification (chainIn t) none (w .d) (w .m) (leastM (chainIn t) none (w .d) (w .m))) (w .v) (w .checks)
 
+-- the place of a step
+abbrev pub placeOf : Walk → Place
+placeOf w = record { k = w .k; d = w .d; m = w .m; v = w .v }
+
 -- r is the step before w, at 0 where the walk is over
 pub record StepsBack (t : List ℕ) (w r : Walk) : Type 0 where
-  pub falls : r .v < w .v
+  pub before : Before (chainIn t) none (placeOf w) (placeOf r)
   pub walking : 0 < r .v → Walking t r
-  pub marks : (s j : ℕ) → j ≢ w .v
-      → planTo (chainIn t) none (suc s) (w .k) (w .d) (w .m) (w .v) j ≡ cond (eqb (r .v) 0) 0 (planTo (chainIn t) none s (r .k) (r .d) (r .m) (r .v) j)
-
--- the marks of the plan of n tasks, in an array
-pub record PlannedMarks (t : List ℕ) (n : ℕ) (l : List ℕ) : Type 0 where
-  pub long : length l ≡ taskLimit
-  pub marks : (j : ℕ) → 0 < j → j ≤ n → getD l (j - 1) 0 ≡ planMarks (chainIn t) none n j
 
 -- What each function of the walk asks, and the step that it gives.
 pub record ReadyAtCopy (t : List ℕ) (k d v : ℕ) (times copies : List ℕ) : Type 0 where

@@ -55,7 +55,7 @@ stretch-time-requires c κs =
     record {
       factors = rw (entry .ensures) (pre .bounded .factored (args .u) (loop .v) (loop .inv .0) (omega arith) some);
       recoveries = pre .recoveries;
-      time = pre .reached;
+      time = omega (arith, pre .reached);
     }
 
 add-offer : tie.Need-add-offer Inv-loop μ-loop

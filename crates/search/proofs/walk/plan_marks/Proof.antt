@@ -1,13 +1,14 @@
 -- `search::walk::plan_marks` meets its contract. The loop's invariant: the marks after w.v are the plan's, and w is the place of the theory's walk there. The
 -- measure is w.v. Assumes nothing.
 use native.Mathlib.Omega.{arith}
-use Rattle.search.proofs.Backs.{backs-less, Placed, placed-first, placed-next, placed-last}
+use Rattle.chain.proofs.Placing.{placed-last}
+use Rattle.search.proofs.Backs.{backs-less, PlacedAt, placed-first, placed-next}
 use Rattle.search.proofs.Tables.{bounded-less}
 use Rattle.search.proofs.walk.plan_marks.Statement.{statement}
 use Rattle.search.proofs.walk.plan_marks.Tie as tie
 
 abbrev Inv-loop : tie.InvT-loop
-Inv-loop t backs n marks₀ w₀ marks w = Placed t n w marks
+Inv-loop t backs n marks₀ w₀ marks w = PlacedAt t n w marks
 
 abbrev μ-loop : tie.MeasureT-loop
 μ-loop t backs n marks₀ w₀ marks w = w .v
@@ -19,8 +20,9 @@ at-disk-requires c κs =
 
 loop-holds : tie.Need-loop-holds Inv-loop μ-loop
 loop-holds c =
+    let pre = c .before .before .before .pre in
     let at-disk = c .at-disk in
-    placed-first _ _ _ (at-disk .ensures)
+    placed-first _ _ _ (omega (arith, pre .bounded .few)) (at-disk .ensures)
 
 sub-marks : tie.Need-sub-marks Inv-loop μ-loop
 sub-marks c =
@@ -31,7 +33,7 @@ array-write-marks : tie.Need-array-write-marks Inv-loop μ-loop
 array-write-marks c =
     let loop = c .before .before .loop in
     let pre = c .before .before .before .before .before .before .pre in
-    omega (arith, loop .inv .within, pre .bounded .few)
+    omega (arith, loop .inv .placed .within, pre .bounded .few)
 
 step-back-requires : tie.Need-step-back-requires Inv-loop μ-loop
 step-back-requires c κs =
@@ -39,29 +41,28 @@ step-back-requires c κs =
     let pre = c .before .before .before .before .before .before .pre in
     let if1 = c .if1 in
     record {
-      bounded = bounded-less _ _ _ (loop .inv .within) (pre .bounded);
-      backs-row = backs-less _ _ _ _ _ (loop .inv .within) (pre .backs-row);
+      bounded = bounded-less _ _ _ (loop .inv .placed .within) (pre .bounded);
+      backs-row = backs-less _ _ _ _ _ (loop .inv .placed .within) (pre .backs-row);
       walking = loop .inv .walking (if1 .taken);
     }
 
 loop-less : tie.Need-loop-less Inv-loop μ-loop
 loop-less c =
     let step-back = c .step-back in
-    step-back .ensures .falls
+    step-back .ensures .before .falls
 
 loop-again : tie.Need-loop-again Inv-loop μ-loop
 loop-again c =
     let loop = c .before .before .before .loop in
     let if1 = c .before .if1 in
-    let pre = c .before .before .before .before .before .before .before .pre in
     let step-back = c .step-back in
-    placed-next _ _ _ _ _ (loop .inv) (if1 .taken) (omega (arith, pre .bounded .few)) (step-back .ensures)
+    placed-next _ _ _ _ _ (loop .inv) (if1 .taken) (step-back .ensures)
 
 returns : tie.Need-returns Inv-loop μ-loop
 returns c =
     let loop = c .before .before .loop in
     let if1 = c .if1 in
-    placed-last _ _ _ _ (loop .inv) (if1 .left)
+    placed-last _ _ _ _ _ (loop .inv .placed) (if1 .left)
 
 pub plan-marks-spec : {M : Type 1} → statement M
 plan-marks-spec =

@@ -1,0 +1,317 @@
+-- The cycle of `equations::times::e` and `equations::times::e_verif`. The end position falls at each call of E_verif: the measure is 2 v_2 for E and 2 v_2 + 1 for
+-- E_verif. The loop's invariant: the min of equation (1) over the v_1 seen so far. Assumes nothing.
+use Prim.Native.Nat.{ℕ, _+_, _-_, _*_, _≤_, _<_}
+use mathlib.Core.Path.{_≡_, _∙_, ap}
+use native.Mathlib.Omega.{arith}
+use Rattle.chain.specs.declared.Factors.{Factors}
+use Rattle.costs.specs.Stretch.{chainOf}
+use Rattle.costs.proofs.Stretches.{both-factored}
+use Rattle.equations.specs.Equations.{IsMin, byVerification}
+use Rattle.equations.proofs.Minima.{min-first, min-more}
+use Rattle.equations.proofs.Levels.{stretch-none, stretch-some, verification-cap, verification-start, verification-found}
+use borrow.Fn.Kinds.{In}
+use borrow.Fn.PlainCycle.{Measures, is, falls, and}
+use Rattle.equations.proofs.times.e.Reads as e
+use Rattle.equations.proofs.times.e.Kinds as e-kinds
+use Rattle.equations.proofs.times.+e+e_verif.Lts-e as e-lts
+use Rattle.equations.proofs.times.e_verif.Reads as e-verif
+use Rattle.equations.proofs.times.e_verif.Kinds as e-verif-kinds
+use Rattle.equations.proofs.times.+e+e_verif.Lts-e_verif as e-verif-lts
+use Rattle.chain.proofs.stretch_time.Reads as stretch-time-reads
+use Rattle.equations.proofs.times.growths.Reads as growths-reads
+use Rattle.equations.proofs.times.min.Reads as min-reads
+use Rattle.equations.proofs.times.recoveries.Reads as recoveries-reads
+use Rattle.equations.proofs.times.+e+e_verif.{statement}
+use Rattle.equations.proofs.times.+e+e_verif.Tie.{close}
+
+abbrev μ-e : Measures 0 e-kinds.ps ℕ
+μ-e κs a = 2 * a .1 .1 .1 .1 .1 .0
+
+abbrev μ-e-verif : Measures 0 e-verif-kinds.ps ℕ
+μ-e-verif κs a = 2 * a .1 .1 .1 .1 .0 + 1
+
+abbrev e-at : ℕ → In 0 e-kinds.ps
+e-at t = and 0 e-kinds.ps (is 0 e-kinds.ps μ-e t) e.Pre
+
+abbrev e-below : ℕ → In 0 e-kinds.ps
+e-below t = and 0 e-kinds.ps (falls 0 e-kinds.ps _<_ μ-e t) e.Pre
+
+abbrev e-verif-at : ℕ → In 0 e-verif-kinds.ps
+e-verif-at t = and 0 e-verif-kinds.ps (is 0 e-verif-kinds.ps μ-e-verif t) e-verif.Pre
+
+abbrev e-verif-below : ℕ → In 0 e-verif-kinds.ps
+e-verif-below t = and 0 e-verif-kinds.ps (falls 0 e-verif-kinds.ps _<_ μ-e-verif t) e-verif.Pre
+
+e-growths-requires : (t : ℕ) → e-lts.Need-growths-requires (
+  growths-reads.Asked,
+  growths-reads.Learnt,
+  recoveries-reads.Asked,
+  recoveries-reads.Learnt,
+  e-verif-below t,
+  e-verif.Post,
+  stretch-time-reads.Asked,
+  stretch-time-reads.Learnt,
+) (e-at t) e.Post
+e-growths-requires t c κs =
+    let pre = c .pre .1 in
+    pre .stretch
+
+e-returns : (t : ℕ) → e-lts.Need-returns (
+  growths-reads.Asked,
+  growths-reads.Learnt,
+  recoveries-reads.Asked,
+  recoveries-reads.Learnt,
+  e-verif-below t,
+  e-verif.Post,
+  stretch-time-reads.Asked,
+  stretch-time-reads.Learnt,
+) (e-at t) e.Post
+e-returns t c =
+    let args = c .before .before .before .args in
+    let pre = c .before .before .before .pre .1 in
+    (stretch-none (args .job) (pre .stretch .sound) (args .d1) (args .m1) (args .mem) (args .v1) (args .v2) (pre .stretch .end) _ (c .before .before .growths .ensures) (c .if1 .taken), omega arith)
+
+e-recoveries-requires : (t : ℕ) → e-lts.Need-recoveries-requires (
+  growths-reads.Asked,
+  growths-reads.Learnt,
+  recoveries-reads.Asked,
+  recoveries-reads.Learnt,
+  e-verif-below t,
+  e-verif.Post,
+  stretch-time-reads.Asked,
+  stretch-time-reads.Learnt,
+) (e-at t) e.Post
+e-recoveries-requires t c κs =
+    let pre = c .before .before .before .pre .1 in
+    record { sound = pre .stretch .sound; time = pre .time }
+
+e-e-verif-requires : (t : ℕ) → e-lts.Need-e-verif-requires (
+  growths-reads.Asked,
+  growths-reads.Learnt,
+  recoveries-reads.Asked,
+  recoveries-reads.Learnt,
+  e-verif-below t,
+  e-verif.Post,
+  stretch-time-reads.Asked,
+  stretch-time-reads.Learnt,
+) (e-at t) e.Post
+e-e-verif-requires t c κs =
+    let pre = c .before .before .before .before .pre in (
+      omega (arith, pre .0, pre .1 .stretch .order),
+      record {
+        sound = pre .1 .stretch .sound;
+        start = pre .1 .start;
+        end = omega (arith, pre .1 .stretch .order, pre .1 .stretch .end);
+        time = pre .1 .time;
+      },
+    )
+
+e-stretch-time-requires : (t : ℕ) → e-lts.Need-stretch-time-requires (
+  growths-reads.Asked,
+  growths-reads.Learnt,
+  recoveries-reads.Asked,
+  recoveries-reads.Learnt,
+  e-verif-below t,
+  e-verif.Post,
+  stretch-time-reads.Asked,
+  stretch-time-reads.Learnt,
+) (e-at t) e.Post
+e-stretch-time-requires t c κs =
+    let args = c .before .before .before .before .before .args in
+    let pre = c .before .before .before .before .before .pre .1 in
+    let growths = c .before .before .before .before .growths in
+    record {
+      factors =
+          rw (growths .ensures)
+          (both-factored (args .job) (pre .stretch .sound) (args .v1) (args .v2) (pre .stretch .end)
+          (λ z. c .before .before .if1 .left (ap (λ (f : Factors). f .both) (growths .ensures) ∙ z)));
+      recoveries = c .before .recoveries .ensures .range;
+      time = omega (arith, c .e-verif .ensures .value, verification-cap (chainOf (args .job)) (args .d1) (args .m1) (args .mem) (args .v1));
+    }
+
+e-returns-2 : (t : ℕ) → e-lts.Need-returns-2 (
+  growths-reads.Asked,
+  growths-reads.Learnt,
+  recoveries-reads.Asked,
+  recoveries-reads.Learnt,
+  e-verif-below t,
+  e-verif.Post,
+  stretch-time-reads.Asked,
+  stretch-time-reads.Learnt,
+) (e-at t) e.Post
+e-returns-2 t c =
+    let args = c .before .before .before .before .before .before .args in
+    let pre = c .before .before .before .before .before .before .pre .1 in
+    let growths = c .before .before .before .before .before .growths in
+    let again = stretch-some (args .job) (pre .stretch .sound) (args .d1) (args .m1) (args .mem) (args .v1) (args .v2) (pre .stretch .end) _ (growths .ensures) in (
+      c .stretch-time .ensures .value
+          ∙ rw (c .before .e-verif .ensures .value) (again (c .before .before .before .if1 .left) _ (c .before .before .recoveries .ensures .value)),
+      c .stretch-time .ensures .cap,
+    )
+
+abbrev e-verif-Inv-loop : e-verif-lts.InvT-loop
+e-verif-Inv-loop d1 m1 mem v2 job least₀ v1₀ least v1 = (m1 ≤ v1) × (v1 ≤ v2) × IsMin m1 v1 (byVerification (chainOf job) d1 m1 mem v2) least
+
+abbrev e-verif-μ-loop : e-verif-lts.MeasureT-loop
+e-verif-μ-loop d1 m1 mem v2 job least₀ v1₀ least v1 = v2 - v1
+
+e-verif-returns : (t : ℕ) → e-verif-lts.Need-returns (
+  e-verif-below t,
+  e-verif.Post,
+  e-below t,
+  e.Post,
+  min-reads.Asked,
+  min-reads.Learnt,
+) (e-verif-at t) e-verif.Post e-verif-Inv-loop e-verif-μ-loop
+e-verif-returns t c = rw (c .if1 .taken) (verification-start _ _ _ _)
+
+e-verif-loop-holds : (t : ℕ) → e-verif-lts.Need-loop-holds (
+  e-verif-below t,
+  e-verif.Post,
+  e-below t,
+  e.Post,
+  min-reads.Asked,
+  min-reads.Learnt,
+) (e-verif-at t) e-verif.Post e-verif-Inv-loop e-verif-μ-loop
+e-verif-loop-holds t c = (omega arith, omega (arith, c .before .pre .1 .start), min-first _ _)
+
+e-verif-e-verif-requires : (t : ℕ) → e-verif-lts.Need-e-verif-requires (
+  e-verif-below t,
+  e-verif.Post,
+  e-below t,
+  e.Post,
+  min-reads.Asked,
+  min-reads.Learnt,
+) (e-verif-at t) e-verif.Post e-verif-Inv-loop e-verif-μ-loop
+e-verif-e-verif-requires t c κs =
+    let pre = c .before .before .before .pre in
+    let inv = c .before .loop .inv in (
+      omega (arith, pre .0),
+      record { sound = pre .1 .sound; start = inv .0; end = omega (arith, inv .1, pre .1 .end); time = pre .1 .time },
+    )
+
+e-verif-e-requires : (t : ℕ) → e-verif-lts.Need-e-requires (
+  e-verif-below t,
+  e-verif.Post,
+  e-below t,
+  e.Post,
+  min-reads.Asked,
+  min-reads.Learnt,
+) (e-verif-at t) e-verif.Post e-verif-Inv-loop e-verif-μ-loop
+e-verif-e-requires t c κs =
+    let pre = c .before .before .before .before .pre in
+    let inv = c .before .before .loop .inv in (
+      omega (arith, pre .0),
+      record { stretch = record { sound = pre .1 .sound; order = omega arith; end = pre .1 .end }; start = inv .0; time = pre .1 .time },
+    )
+
+e-verif-add-min : (t : ℕ) → e-verif-lts.Need-add-min (
+  e-verif-below t,
+  e-verif.Post,
+  e-below t,
+  e.Post,
+  min-reads.Asked,
+  min-reads.Learnt,
+) (e-verif-at t) e-verif.Post e-verif-Inv-loop e-verif-μ-loop
+e-verif-add-min t c =
+    let args = c .before .before .before .before .before .args in
+    let loop = c .before .before .before .loop in
+    omega (arith, c .before .e-verif .ensures .value, verification-cap (chainOf (args .job)) (args .d1) (args .m1) (args .mem) (loop .v1), c .e .ensures .1)
+
+e-verif-min-requires : (t : ℕ) → e-verif-lts.Need-min-requires (
+  e-verif-below t,
+  e-verif.Post,
+  e-below t,
+  e.Post,
+  min-reads.Asked,
+  min-reads.Learnt,
+) (e-verif-at t) e-verif.Post e-verif-Inv-loop e-verif-μ-loop
+e-verif-min-requires t c κs = tt
+
+e-verif-add-v1 : (t : ℕ) → e-verif-lts.Need-add-v1 (
+  e-verif-below t,
+  e-verif.Post,
+  e-below t,
+  e.Post,
+  min-reads.Asked,
+  min-reads.Learnt,
+) (e-verif-at t) e-verif.Post e-verif-Inv-loop e-verif-μ-loop
+e-verif-add-v1 t c =
+    let pre = c .before .before .before .before .before .before .pre .1 in
+    omega (arith, pre .end, pre .sound .few-tasks)
+
+e-verif-loop-less : (t : ℕ) → e-verif-lts.Need-loop-less (
+  e-verif-below t,
+  e-verif.Post,
+  e-below t,
+  e.Post,
+  min-reads.Asked,
+  min-reads.Learnt,
+) (e-verif-at t) e-verif.Post e-verif-Inv-loop e-verif-μ-loop
+e-verif-loop-less t c = omega arith
+
+e-verif-loop-again : (t : ℕ) → e-verif-lts.Need-loop-again (
+  e-verif-below t,
+  e-verif.Post,
+  e-below t,
+  e.Post,
+  min-reads.Asked,
+  min-reads.Learnt,
+) (e-verif-at t) e-verif.Post e-verif-Inv-loop e-verif-μ-loop
+e-verif-loop-again t c =
+    let loop = c .before .before .before .before .loop in (
+      omega (arith, loop .inv .0),
+      omega arith,
+      rw (c .min .ensures, c .before .e .ensures .0, c .before .before .e-verif .ensures .value) (min-more _ _ _ _ (loop .inv .0) (loop .inv .2)),
+    )
+
+e-verif-returns-2 : (t : ℕ) → e-verif-lts.Need-returns-2 (
+  e-verif-below t,
+  e-verif.Post,
+  e-below t,
+  e.Post,
+  min-reads.Asked,
+  min-reads.Learnt,
+) (e-verif-at t) e-verif.Post e-verif-Inv-loop e-verif-μ-loop
+e-verif-returns-2 t c =
+    let args = c .before .before .before .args in
+    let pre = c .before .before .before .pre .1 in
+    let loop = c .before .loop in
+    let e : loop .v1 ≡ args .v2 = omega (arith, loop .inv .1) in
+    verification-found _ _ _ _ _ _ (omega (arith, pre .start, c .before .before .if1 .left)) (rw e at (loop .inv .2))
+
+pub +e+e-verif-spec : {M : Type 1} → statement M
++e+e-verif-spec = close μ-e μ-e-verif (λ t. e-lts.spec (
+  growths-reads.Asked,
+  growths-reads.Learnt,
+  recoveries-reads.Asked,
+  recoveries-reads.Learnt,
+  e-verif-below t,
+  e-verif.Post,
+  stretch-time-reads.Asked,
+  stretch-time-reads.Learnt,
+)
+    (e-at t)
+    e.Post
+    (e-growths-requires t)
+    (e-returns t)
+    (e-recoveries-requires t)
+    (e-e-verif-requires t)
+    (e-stretch-time-requires t)
+    (e-returns-2 t))
+    λ t. e-verif-lts.spec
+    (e-verif-below t, e-verif.Post, e-below t, e.Post, min-reads.Asked, min-reads.Learnt)
+    (e-verif-at t)
+    e-verif.Post
+    e-verif-Inv-loop
+    e-verif-μ-loop
+    (e-verif-returns t)
+    (e-verif-loop-holds t)
+    (e-verif-e-verif-requires t)
+    (e-verif-e-requires t)
+    (e-verif-add-min t)
+    (e-verif-min-requires t)
+    (e-verif-add-v1 t)
+    (e-verif-loop-less t)
+    (e-verif-loop-again t)
+    (e-verif-returns-2 t)

@@ -1,0 +1,241 @@
+-- `equations::times::e_disk` meets its contract: a cycle of its own, whose measure is d_2. The loop's invariant: the min of its equation over the d_1 seen so far.
+-- Assumes nothing.
+use Prim.Native.Nat.{ℕ, _+_, _-_, _≤_, _<_}
+use mathlib.Core.Path.{_≡_}
+use native.Mathlib.Omega.{arith}
+use Rattle.costs.specs.Stretch.{chainOf}
+use Rattle.equations.specs.Equations.{IsMin, byDisk}
+use Rattle.equations.proofs.Minima.{min-first, min-more}
+use Rattle.equations.proofs.Levels.{disk-cap, memory-cap, disk-start, disk-found}
+use borrow.Fn.Kinds.{In}
+use borrow.Fn.PlainCycle.{Measures, is, falls, and}
+use Rattle.equations.proofs.times.e_disk.Reads as e-disk
+use Rattle.equations.proofs.times.e_disk.Kinds as e-disk-kinds
+use Rattle.equations.proofs.times.+e_disk.Lts-e_disk as e-disk-lts
+use Rattle.costs.proofs.cd_at.Reads as cd-at-reads
+use Rattle.equations.proofs.times.e_mem.Reads as e-mem-reads
+use Rattle.equations.proofs.times.min.Reads as min-reads
+use Rattle.equations.proofs.times.+e_disk.{statement}
+use Rattle.equations.proofs.times.+e_disk.Tie.{close}
+
+abbrev μ-e-disk : Measures 0 e-disk-kinds.ps ℕ
+μ-e-disk κs a = a .1 .0
+
+abbrev e-disk-at : ℕ → In 0 e-disk-kinds.ps
+e-disk-at t = and 0 e-disk-kinds.ps (is 0 e-disk-kinds.ps μ-e-disk t) e-disk.Pre
+
+abbrev e-disk-below : ℕ → In 0 e-disk-kinds.ps
+e-disk-below t = and 0 e-disk-kinds.ps (falls 0 e-disk-kinds.ps _<_ μ-e-disk t) e-disk.Pre
+
+abbrev e-disk-Inv-loop : e-disk-lts.InvT-loop
+e-disk-Inv-loop d2 job least₀ d1₀ least d1 = (d1 ≤ d2) × IsMin 0 d1 (byDisk (chainOf job) d2) least
+
+abbrev e-disk-μ-loop : e-disk-lts.MeasureT-loop
+e-disk-μ-loop d2 job least₀ d1₀ least d1 = d2 - d1
+
+e-disk-returns : (t : ℕ) → e-disk-lts.Need-returns (
+  e-disk-below t,
+  e-disk.Post,
+  e-mem-reads.Asked,
+  e-mem-reads.Learnt,
+  cd-at-reads.Asked,
+  cd-at-reads.Learnt,
+  min-reads.Asked,
+  min-reads.Learnt,
+) (e-disk-at t) e-disk.Post e-disk-Inv-loop e-disk-μ-loop
+e-disk-returns t c = rw (c .if1 .taken) (disk-start _)
+
+e-disk-loop-holds : (t : ℕ) → e-disk-lts.Need-loop-holds (
+  e-disk-below t,
+  e-disk.Post,
+  e-mem-reads.Asked,
+  e-mem-reads.Learnt,
+  cd-at-reads.Asked,
+  cd-at-reads.Learnt,
+  min-reads.Asked,
+  min-reads.Learnt,
+) (e-disk-at t) e-disk.Post e-disk-Inv-loop e-disk-μ-loop
+e-disk-loop-holds t c = (omega arith, min-first _ _)
+
+e-disk-e-disk-requires : (t : ℕ) → e-disk-lts.Need-e-disk-requires (
+  e-disk-below t,
+  e-disk.Post,
+  e-mem-reads.Asked,
+  e-mem-reads.Learnt,
+  cd-at-reads.Asked,
+  cd-at-reads.Learnt,
+  min-reads.Asked,
+  min-reads.Learnt,
+) (e-disk-at t) e-disk.Post e-disk-Inv-loop e-disk-μ-loop
+e-disk-e-disk-requires t c κs =
+    let pre = c .before .before .before .pre in
+    (omega (arith, pre .0), record { sound = pre .1 .sound; end = omega (arith, pre .1 .end) })
+
+e-disk-e-mem-requires : (t : ℕ) → e-disk-lts.Need-e-mem-requires (
+  e-disk-below t,
+  e-disk.Post,
+  e-mem-reads.Asked,
+  e-mem-reads.Learnt,
+  cd-at-reads.Asked,
+  cd-at-reads.Learnt,
+  min-reads.Asked,
+  min-reads.Learnt,
+) (e-disk-at t) e-disk.Post e-disk-Inv-loop e-disk-μ-loop
+e-disk-e-mem-requires t c κs =
+    let pre = c .before .before .before .before .pre .1 in
+    record { sound = pre .sound; start = c .before .before .loop .inv .0; end = pre .end }
+
+e-disk-add-min : (t : ℕ) → e-disk-lts.Need-add-min (
+  e-disk-below t,
+  e-disk.Post,
+  e-mem-reads.Asked,
+  e-mem-reads.Learnt,
+  cd-at-reads.Asked,
+  cd-at-reads.Learnt,
+  min-reads.Asked,
+  min-reads.Learnt,
+) (e-disk-at t) e-disk.Post e-disk-Inv-loop e-disk-μ-loop
+e-disk-add-min t c =
+    let args = c .before .before .before .before .before .args in
+    let loop = c .before .before .before .loop in
+    omega (
+      arith,
+      c .before .e-disk .ensures .value,
+      disk-cap (chainOf (args .job)) (loop .d1),
+      c .e-mem .ensures .value,
+      memory-cap (chainOf (args .job)) (loop .d1) (args .d2),
+    )
+
+e-disk-cd-at-requires : (t : ℕ) → e-disk-lts.Need-cd-at-requires (
+  e-disk-below t,
+  e-disk.Post,
+  e-mem-reads.Asked,
+  e-mem-reads.Learnt,
+  cd-at-reads.Asked,
+  cd-at-reads.Learnt,
+  min-reads.Asked,
+  min-reads.Learnt,
+) (e-disk-at t) e-disk.Post e-disk-Inv-loop e-disk-μ-loop
+e-disk-cd-at-requires t c κs = tt
+
+e-disk-add-min-2 : (t : ℕ) → e-disk-lts.Need-add-min-2 (
+  e-disk-below t,
+  e-disk.Post,
+  e-mem-reads.Asked,
+  e-mem-reads.Learnt,
+  cd-at-reads.Asked,
+  cd-at-reads.Learnt,
+  min-reads.Asked,
+  min-reads.Learnt,
+) (e-disk-at t) e-disk.Post e-disk-Inv-loop e-disk-μ-loop
+e-disk-add-min-2 t c =
+    let args = c .before .before .before .before .before .before .args in
+    let loop = c .before .before .before .before .loop in
+    omega (
+      arith,
+      c .before .before .e-disk .ensures .value,
+      disk-cap (chainOf (args .job)) (loop .d1),
+      c .before .e-mem .ensures .value,
+      memory-cap (chainOf (args .job)) (loop .d1) (args .d2),
+      c .cd-at .ensures .fits,
+    )
+
+e-disk-min-requires : (t : ℕ) → e-disk-lts.Need-min-requires (
+  e-disk-below t,
+  e-disk.Post,
+  e-mem-reads.Asked,
+  e-mem-reads.Learnt,
+  cd-at-reads.Asked,
+  cd-at-reads.Learnt,
+  min-reads.Asked,
+  min-reads.Learnt,
+) (e-disk-at t) e-disk.Post e-disk-Inv-loop e-disk-μ-loop
+e-disk-min-requires t c κs = tt
+
+e-disk-add-d1 : (t : ℕ) → e-disk-lts.Need-add-d1 (
+  e-disk-below t,
+  e-disk.Post,
+  e-mem-reads.Asked,
+  e-mem-reads.Learnt,
+  cd-at-reads.Asked,
+  cd-at-reads.Learnt,
+  min-reads.Asked,
+  min-reads.Learnt,
+) (e-disk-at t) e-disk.Post e-disk-Inv-loop e-disk-μ-loop
+e-disk-add-d1 t c =
+    let pre = c .before .before .before .before .before .before .before .pre .1 in
+    omega (arith, pre .end, pre .sound .few-tasks)
+
+e-disk-loop-less : (t : ℕ) → e-disk-lts.Need-loop-less (
+  e-disk-below t,
+  e-disk.Post,
+  e-mem-reads.Asked,
+  e-mem-reads.Learnt,
+  cd-at-reads.Asked,
+  cd-at-reads.Learnt,
+  min-reads.Asked,
+  min-reads.Learnt,
+) (e-disk-at t) e-disk.Post e-disk-Inv-loop e-disk-μ-loop
+e-disk-loop-less t c = omega arith
+
+e-disk-loop-again : (t : ℕ) → e-disk-lts.Need-loop-again (
+  e-disk-below t,
+  e-disk.Post,
+  e-mem-reads.Asked,
+  e-mem-reads.Learnt,
+  cd-at-reads.Asked,
+  cd-at-reads.Learnt,
+  min-reads.Asked,
+  min-reads.Learnt,
+) (e-disk-at t) e-disk.Post e-disk-Inv-loop e-disk-μ-loop
+unfolding chainOf
+e-disk-loop-again t c =
+    let loop = c .before .before .before .before .before .loop in (
+      omega arith,
+      rw (c .min .ensures, c .before .before .before .e-disk .ensures .value, c .before .before .e-mem .ensures .value, c .before .cd-at .ensures .value)
+          (min-more _ _ _ _ (omega arith) (loop .inv .1)),
+    )
+
+e-disk-returns-2 : (t : ℕ) → e-disk-lts.Need-returns-2 (
+  e-disk-below t,
+  e-disk.Post,
+  e-mem-reads.Asked,
+  e-mem-reads.Learnt,
+  cd-at-reads.Asked,
+  cd-at-reads.Learnt,
+  min-reads.Asked,
+  min-reads.Learnt,
+) (e-disk-at t) e-disk.Post e-disk-Inv-loop e-disk-μ-loop
+e-disk-returns-2 t c =
+    let args = c .before .before .before .args in
+    let loop = c .before .loop in
+    let e : loop .d1 ≡ args .d2 = omega (arith, loop .inv .0) in
+    disk-found _ _ _ (omega (arith, c .before .before .if1 .left)) (rw e at (loop .inv .1))
+
+pub +e-disk-spec : {M : Type 1} → statement M
++e-disk-spec = close μ-e-disk λ t. e-disk-lts.spec (
+  e-disk-below t,
+  e-disk.Post,
+  e-mem-reads.Asked,
+  e-mem-reads.Learnt,
+  cd-at-reads.Asked,
+  cd-at-reads.Learnt,
+  min-reads.Asked,
+  min-reads.Learnt,
+)
+    (e-disk-at t)
+    e-disk.Post
+    e-disk-Inv-loop
+    e-disk-μ-loop
+    (e-disk-returns t)
+    (e-disk-loop-holds t)
+    (e-disk-e-disk-requires t)
+    (e-disk-e-mem-requires t)
+    (e-disk-add-min t)
+    (e-disk-cd-at-requires t)
+    (e-disk-add-min-2 t)
+    (e-disk-min-requires t)
+    (e-disk-add-d1 t)
+    (e-disk-loop-less t)
+    (e-disk-loop-again t)
+    (e-disk-returns-2 t)

@@ -1,0 +1,253 @@
+-- `equations::times::e_mem` meets its contract: a cycle of its own, whose measure is m_2. The loop's invariant: the min of its equation over the m_1 seen so far.
+-- Assumes nothing.
+use Prim.Native.Nat.{ℕ, _+_, _-_, _≤_, _<_}
+use mathlib.Core.Path.{_≡_}
+use native.Mathlib.Omega.{arith}
+use Rattle.costs.specs.Stretch.{chainOf}
+use Rattle.equations.specs.Equations.{IsMin, byMemory}
+use Rattle.equations.proofs.Minima.{min-first, min-more}
+use Rattle.equations.proofs.Levels.{memory-cap, verification-cap, memory-start, memory-found}
+use borrow.Fn.Kinds.{In}
+use borrow.Fn.PlainCycle.{Measures, is, falls, and}
+use Rattle.equations.proofs.times.e_mem.Reads as e-mem
+use Rattle.equations.proofs.times.e_mem.Kinds as e-mem-kinds
+use Rattle.equations.proofs.times.+e_mem.Lts-e_mem as e-mem-lts
+use Rattle.costs.proofs.cm_at.Reads as cm-at-reads
+use Rattle.equations.proofs.times.e_verif.Reads as e-verif-reads
+use Rattle.equations.proofs.times.min.Reads as min-reads
+use Rattle.equations.proofs.times.+e_mem.{statement}
+use Rattle.equations.proofs.times.+e_mem.Tie.{close}
+
+abbrev μ-e-mem : Measures 0 e-mem-kinds.ps ℕ
+μ-e-mem κs a = a .1 .1 .0
+
+abbrev e-mem-at : ℕ → In 0 e-mem-kinds.ps
+e-mem-at t = and 0 e-mem-kinds.ps (is 0 e-mem-kinds.ps μ-e-mem t) e-mem.Pre
+
+abbrev e-mem-below : ℕ → In 0 e-mem-kinds.ps
+e-mem-below t = and 0 e-mem-kinds.ps (falls 0 e-mem-kinds.ps _<_ μ-e-mem t) e-mem.Pre
+
+abbrev e-mem-Inv-loop : e-mem-lts.InvT-loop
+e-mem-Inv-loop d1 m2 job least₀ m1₀ least m1 = (d1 ≤ m1) × (m1 ≤ m2) × IsMin d1 m1 (byMemory (chainOf job) d1 m2) least
+
+abbrev e-mem-μ-loop : e-mem-lts.MeasureT-loop
+e-mem-μ-loop d1 m2 job least₀ m1₀ least m1 = m2 - m1
+
+e-mem-returns : (t : ℕ) → e-mem-lts.Need-returns (
+  e-mem-below t,
+  e-mem.Post,
+  e-verif-reads.Asked,
+  e-verif-reads.Learnt,
+  cm-at-reads.Asked,
+  cm-at-reads.Learnt,
+  min-reads.Asked,
+  min-reads.Learnt,
+) (e-mem-at t) e-mem.Post e-mem-Inv-loop e-mem-μ-loop
+e-mem-returns t c = rw (c .if1 .taken) (memory-start _ _)
+
+e-mem-loop-holds : (t : ℕ) → e-mem-lts.Need-loop-holds (
+  e-mem-below t,
+  e-mem.Post,
+  e-verif-reads.Asked,
+  e-verif-reads.Learnt,
+  cm-at-reads.Asked,
+  cm-at-reads.Learnt,
+  min-reads.Asked,
+  min-reads.Learnt,
+) (e-mem-at t) e-mem.Post e-mem-Inv-loop e-mem-μ-loop
+e-mem-loop-holds t c = (omega arith, omega (arith, c .before .pre .1 .start), min-first _ _)
+
+e-mem-e-mem-requires : (t : ℕ) → e-mem-lts.Need-e-mem-requires (
+  e-mem-below t,
+  e-mem.Post,
+  e-verif-reads.Asked,
+  e-verif-reads.Learnt,
+  cm-at-reads.Asked,
+  cm-at-reads.Learnt,
+  min-reads.Asked,
+  min-reads.Learnt,
+) (e-mem-at t) e-mem.Post e-mem-Inv-loop e-mem-μ-loop
+e-mem-e-mem-requires t c κs =
+    let pre = c .before .before .before .pre in
+    let inv = c .before .loop .inv in
+    (omega (arith, pre .0), record { sound = pre .1 .sound; start = inv .0; end = omega (arith, inv .1, pre .1 .end) })
+
+e-mem-e-verif-requires : (t : ℕ) → e-mem-lts.Need-e-verif-requires (
+  e-mem-below t,
+  e-mem.Post,
+  e-verif-reads.Asked,
+  e-verif-reads.Learnt,
+  cm-at-reads.Asked,
+  cm-at-reads.Learnt,
+  min-reads.Asked,
+  min-reads.Learnt,
+) (e-mem-at t) e-mem.Post e-mem-Inv-loop e-mem-μ-loop
+e-mem-e-verif-requires t c κs =
+    let args = c .before .before .before .before .args in
+    let pre = c .before .before .before .before .pre .1 in
+    let loop = c .before .before .loop in
+    record {
+      sound = pre .sound;
+      start = loop .inv .1;
+      end = pre .end;
+      time = omega (arith, c .e-mem .ensures .value, memory-cap (chainOf (args .job)) (args .d1) (loop .m1));
+    }
+
+e-mem-add-min : (t : ℕ) → e-mem-lts.Need-add-min (
+  e-mem-below t,
+  e-mem.Post,
+  e-verif-reads.Asked,
+  e-verif-reads.Learnt,
+  cm-at-reads.Asked,
+  cm-at-reads.Learnt,
+  min-reads.Asked,
+  min-reads.Learnt,
+) (e-mem-at t) e-mem.Post e-mem-Inv-loop e-mem-μ-loop
+e-mem-add-min t c =
+    let args = c .before .before .before .before .before .args in
+    let loop = c .before .before .before .loop in
+    omega (
+      arith,
+      c .before .e-mem .ensures .value,
+      memory-cap (chainOf (args .job)) (args .d1) (loop .m1),
+      c .e-verif .ensures .value,
+      verification-cap (chainOf (args .job)) (args .d1) (loop .m1) (c .before .e-mem .result) (args .m2),
+    )
+
+e-mem-cm-at-requires : (t : ℕ) → e-mem-lts.Need-cm-at-requires (
+  e-mem-below t,
+  e-mem.Post,
+  e-verif-reads.Asked,
+  e-verif-reads.Learnt,
+  cm-at-reads.Asked,
+  cm-at-reads.Learnt,
+  min-reads.Asked,
+  min-reads.Learnt,
+) (e-mem-at t) e-mem.Post e-mem-Inv-loop e-mem-μ-loop
+e-mem-cm-at-requires t c κs = tt
+
+e-mem-add-min-2 : (t : ℕ) → e-mem-lts.Need-add-min-2 (
+  e-mem-below t,
+  e-mem.Post,
+  e-verif-reads.Asked,
+  e-verif-reads.Learnt,
+  cm-at-reads.Asked,
+  cm-at-reads.Learnt,
+  min-reads.Asked,
+  min-reads.Learnt,
+) (e-mem-at t) e-mem.Post e-mem-Inv-loop e-mem-μ-loop
+e-mem-add-min-2 t c =
+    let args = c .before .before .before .before .before .before .args in
+    let loop = c .before .before .before .before .loop in
+    let e-mem = c .before .before .e-mem in
+    omega (
+      arith,
+      e-mem .ensures .value,
+      memory-cap (chainOf (args .job)) (args .d1) (loop .m1),
+      c .before .e-verif .ensures .value,
+      verification-cap (chainOf (args .job)) (args .d1) (loop .m1) (e-mem .result) (args .m2),
+      c .cm-at .ensures .fits,
+    )
+
+e-mem-min-requires : (t : ℕ) → e-mem-lts.Need-min-requires (
+  e-mem-below t,
+  e-mem.Post,
+  e-verif-reads.Asked,
+  e-verif-reads.Learnt,
+  cm-at-reads.Asked,
+  cm-at-reads.Learnt,
+  min-reads.Asked,
+  min-reads.Learnt,
+) (e-mem-at t) e-mem.Post e-mem-Inv-loop e-mem-μ-loop
+e-mem-min-requires t c κs = tt
+
+e-mem-add-m1 : (t : ℕ) → e-mem-lts.Need-add-m1 (
+  e-mem-below t,
+  e-mem.Post,
+  e-verif-reads.Asked,
+  e-verif-reads.Learnt,
+  cm-at-reads.Asked,
+  cm-at-reads.Learnt,
+  min-reads.Asked,
+  min-reads.Learnt,
+) (e-mem-at t) e-mem.Post e-mem-Inv-loop e-mem-μ-loop
+e-mem-add-m1 t c =
+    let pre = c .before .before .before .before .before .before .before .pre .1 in
+    omega (arith, pre .end, pre .sound .few-tasks)
+
+e-mem-loop-less : (t : ℕ) → e-mem-lts.Need-loop-less (
+  e-mem-below t,
+  e-mem.Post,
+  e-verif-reads.Asked,
+  e-verif-reads.Learnt,
+  cm-at-reads.Asked,
+  cm-at-reads.Learnt,
+  min-reads.Asked,
+  min-reads.Learnt,
+) (e-mem-at t) e-mem.Post e-mem-Inv-loop e-mem-μ-loop
+e-mem-loop-less t c = omega arith
+
+e-mem-loop-again : (t : ℕ) → e-mem-lts.Need-loop-again (
+  e-mem-below t,
+  e-mem.Post,
+  e-verif-reads.Asked,
+  e-verif-reads.Learnt,
+  cm-at-reads.Asked,
+  cm-at-reads.Learnt,
+  min-reads.Asked,
+  min-reads.Learnt,
+) (e-mem-at t) e-mem.Post e-mem-Inv-loop e-mem-μ-loop
+unfolding chainOf
+e-mem-loop-again t c =
+    let loop = c .before .before .before .before .before .loop in
+    let e-mem = c .before .before .before .e-mem in (
+      omega (arith, loop .inv .0),
+      omega arith,
+      rw (c .min .ensures, c .before .before .e-verif .ensures .value, e-mem .ensures .value, c .before .cm-at .ensures .value)
+          (min-more _ _ _ _ (loop .inv .0) (loop .inv .2)),
+    )
+
+e-mem-returns-2 : (t : ℕ) → e-mem-lts.Need-returns-2 (
+  e-mem-below t,
+  e-mem.Post,
+  e-verif-reads.Asked,
+  e-verif-reads.Learnt,
+  cm-at-reads.Asked,
+  cm-at-reads.Learnt,
+  min-reads.Asked,
+  min-reads.Learnt,
+) (e-mem-at t) e-mem.Post e-mem-Inv-loop e-mem-μ-loop
+e-mem-returns-2 t c =
+    let args = c .before .before .before .args in
+    let pre = c .before .before .before .pre .1 in
+    let loop = c .before .loop in
+    let e : loop .m1 ≡ args .m2 = omega (arith, loop .inv .1) in
+    memory-found _ _ _ _ (omega (arith, pre .start, c .before .before .if1 .left)) (rw e at (loop .inv .2))
+
+pub +e-mem-spec : {M : Type 1} → statement M
++e-mem-spec = close μ-e-mem λ t. e-mem-lts.spec (
+  e-mem-below t,
+  e-mem.Post,
+  e-verif-reads.Asked,
+  e-verif-reads.Learnt,
+  cm-at-reads.Asked,
+  cm-at-reads.Learnt,
+  min-reads.Asked,
+  min-reads.Learnt,
+)
+    (e-mem-at t)
+    e-mem.Post
+    e-mem-Inv-loop
+    e-mem-μ-loop
+    (e-mem-returns t)
+    (e-mem-loop-holds t)
+    (e-mem-e-mem-requires t)
+    (e-mem-e-verif-requires t)
+    (e-mem-add-min t)
+    (e-mem-cm-at-requires t)
+    (e-mem-add-min-2 t)
+    (e-mem-min-requires t)
+    (e-mem-add-m1 t)
+    (e-mem-loop-less t)
+    (e-mem-loop-again t)
+    (e-mem-returns-2 t)

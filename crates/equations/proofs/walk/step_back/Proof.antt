@@ -1,0 +1,88 @@
+-- `equations::walk::step_back` meets its contract. The branches are the theory's: back to a verification, to a memory copy, to a disk copy, or to the start.
+-- Assumes nothing.
+use mathlib.Core.Path.{refl, sym, _∙_}
+use native.Mathlib.Omega.{arith}
+use Rattle.chain.proofs.Placing.{before-mark, before-memory, before-disk, before-start}
+use Rattle.costs.specs.Stretch.{chainOf}
+use Rattle.equations.proofs.Minima.{memory-earliest, verification-earliest}
+use Rattle.equations.proofs.Levels.{memory-cap}
+use Rattle.equations.proofs.walk.step_back.Statement.{statement}
+use Rattle.equations.proofs.walk.step_back.Tie as tie
+
+e-mem-requires : tie.Need-e-mem-requires
+e-mem-requires c κs =
+    let pre = c .pre in
+    record { sound = pre .sound; start = pre .on-way .d-m; end = omega (arith, pre .on-way .m-v, pre .end) }
+
+last-verification-requires : tie.Need-last-verification-requires
+last-verification-requires c κs =
+    let args = c .before .args in
+    let pre = c .before .pre in
+    let on = pre .on-way in
+    record {
+      sound = pre .sound;
+      start = on .m-v;
+      end = pre .end;
+      time = omega (arith, c .e-mem .ensures .value, memory-cap (chainOf (args .job)) (args .w .d) (args .w .m));
+      in-time = rw (c .e-mem .ensures .value) (on .verified);
+    }
+
+returns : tie.Need-returns
+returns c =
+    let on = c .before .before .before .pre .on-way in
+    let at = verification-earliest _ _ _ _ _ (on .m-v) (on .verified) (rw (c .before .before .e-mem .ensures .value) at (c .before .last-verification .ensures)) in
+    before-mark _ _ _ on _ at (c .if1 .taken)
+
+last-memory-requires : tie.Need-last-memory-requires
+last-memory-requires c κs =
+    let pre = c .before .before .before .before .pre in
+    let on = pre .on-way in
+    record {
+      sound = pre .sound;
+      start = omega (arith, on .d-m, c .if2 .taken);
+      end = omega (arith, on .m-v, pre .end);
+      in-time = on .in-memory;
+    }
+
+returns-2 : tie.Need-returns-2
+returns-2 c =
+    let on = c .before .before .before .before .before .pre .on-way in
+    let at = verification-earliest _ _ _ _ _ (on .m-v) (on .verified) (rw (c .before .before .before .before .e-mem .ensures .value) at (c .before .before .before .last-verification .ensures)) in
+    let last = memory-earliest _ _ _ _ (omega (arith, on .d-m, c .before .if2 .taken)) (on .in-memory) (c .last-memory .ensures) in
+    rw last (before-memory _ _ _ on (sym at ∙ c .before .before .if1 .left) (c .before .if2 .taken))
+
+at-disk-requires : tie.Need-at-disk-requires
+at-disk-requires c κs =
+    let pre = c .before .before .before .before .before .pre in
+    let on = pre .on-way in
+    record {
+      sound = pre .sound;
+      some-task = omega (arith, c .if3 .taken);
+      end = omega (arith, on .d-m, on .m-v, pre .end);
+      in-time = on .on-disk;
+    }
+
+returns-3 : tie.Need-returns-3
+returns-3 c =
+    let on = c .before .before .before .before .before .before .pre .on-way in
+    let at = verification-earliest _ _ _ _ _ (on .m-v) (on .verified) (rw (c .before .before .before .before .before .e-mem .ensures .value) at (c .before .before .before .before .last-verification .ensures)) in
+    rw (c .at-disk .ensures) (before-disk _ _ _ on (sym at ∙ c .before .before .before .if1 .left) (c .before .before .if2 .left) (c .before .if3 .taken))
+
+returns-4 : tie.Need-returns-4
+returns-4 c =
+    let on = c .before .before .before .before .before .pre .on-way in
+    let at = verification-earliest _ _ _ _ _ (on .m-v) (on .verified) (rw (c .before .before .before .before .e-mem .ensures .value) at (c .before .before .before .last-verification .ensures)) in
+    before-start _ _ _ on (sym at ∙ c .before .before .if1 .left) (c .before .if2 .left) (c .if3 .left) _ refl
+
+pub step-back-spec : {M : Type 1} → statement M
+step-back-spec =
+    tie.close
+    (tie.spec
+    e-mem-requires
+    last-verification-requires
+    returns
+    last-memory-requires
+    returns-2
+    at-disk-requires
+    returns-3
+    returns-4)

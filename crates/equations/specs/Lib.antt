@@ -1,0 +1,3 @@
+pub mod Equations
+pub mod Promise
+pub mod Working

@@ -1,0 +1,129 @@
+// Section 3.1 of source document 000 as printed: its four functions call each other, and nothing is kept. d1, m1 and v1 are the last disk copy, memory copy and
+// verification before d2, m2 and v2; `mem` is E_mem(d1, m1). NONE stands for every time of 2^34 ticks or more, and for that over a stretch that is not allowed.
+// The marks and the plan call these, for a job that has passed checks 3, 7 and 8.
+ghost use mathlib.Core.Path.{_≡_};
+ghost use Prim.Native.Nat.{min, _≤_};
+ghost use Rattle.chain.specs.Working.Factors.{stretchCap};
+ghost use Rattle.costs.specs.Stretch.{chainOf};
+ghost use Rattle.costs.specs.Working.Factors.{factorsAt};
+ghost use Rattle.equations.specs.Equations.{E, DiskEquation, MemoryEquation, VerificationEquation};
+ghost use Rattle.equations.specs.Working.Ready.{ReadyForFactors, ReadyForRecoveries, RecoveriesAre, ReadyForStretch, ReadyForVerification, ReadyForMemory, ReadyForDisk};
+use chain::Factors;
+use chain::Recoveries;
+use chain::stretch_time;
+use costs::cd_at;
+use costs::cm_at;
+use costs::rd_at;
+use costs::rm_at;
+use costs::stretch_factors;
+use costs::v_at;
+use job::Job;
+use job::totals::weight_to;
+use units::NONE;
+
+fn min(a: u64, b: u64) -> u64
+    ensures { λ r. ⌜ r ≡ min a b ⌝ }
+{
+    if a <= b {
+        return a;
+    }
+    b
+}
+
+// E_disk(d2) = min { E_disk(d1) + E_mem(d1, d2) + C_D }, over 0 <= d1 < d2.
+pub fn e_disk(job: Job, d2: usize) -> u64
+    requires { ⌜ ReadyForDisk job d2 ⌝ }
+    ensures { λ r. ⌜ DiskEquation (chainOf job) d2 r ⌝ }
+{
+    let job = job;
+    if d2 == 0 {
+        return 0;
+    }
+    let mut least = NONE;
+    let mut d1: usize = 0;
+    while d1 < d2 {
+        least = min(least, e_disk(job, d1) + e_mem(job, d1, d2) + cd_at(job, d2));
+        d1 += 1;
+    }
+    least
+}
+
+// E_mem(d1, m2) = min { E_mem(d1, m1) + E_verif(d1, m1, m2) + C_M }, over d1 <= m1 < m2.
+pub fn e_mem(job: Job, d1: usize, m2: usize) -> u64
+    requires { ⌜ ReadyForMemory job d1 m2 ⌝ }
+    ensures { λ r. ⌜ MemoryEquation (chainOf job) d1 m2 r ⌝ }
+{
+    let job = job;
+    if m2 == d1 {
+        return 0;
+    }
+    let mut least = NONE;
+    let mut m1 = d1;
+    while m1 < m2 {
+        let mem = e_mem(job, d1, m1);
+        least = min(least, mem + e_verif(job, d1, m1, mem, m2) + cm_at(job, m2));
+        m1 += 1;
+    }
+    least
+}
+
+// (1)  E_verif(d1, m1, v2) = min { E_verif(d1, m1, v1) + E(d1, m1, v1, v2) }, over m1 <= v1 < v2.
+pub fn e_verif(job: Job, d1: usize, m1: usize, mem: u64, v2: usize) -> u64
+    requires { ⌜ ReadyForVerification job m1 mem v2 ⌝ }
+    ensures { λ r. ⌜ VerificationEquation (chainOf job) d1 m1 mem v2 r ⌝ }
+{
+    let job = job;
+    if v2 == m1 {
+        return 0;
+    }
+    let mut least = NONE;
+    let mut v1 = m1;
+    while v1 < v2 {
+        least = min(
+            least,
+            e_verif(job, d1, m1, mem, v1) + e(job, d1, m1, mem, v1, v2),
+        );
+        v1 += 1;
+    }
+    least
+}
+
+// The growths over the stretch from v1 to v2, whose weight is W, with the first part of (4) worked out.
+fn growths(job: Job, v1: usize, v2: usize) -> Factors
+    requires { ⌜ ReadyForFactors job v1 v2 ⌝ }
+    ensures { λ r. ⌜ r ≡ factorsAt job v1 v2 ⌝ }
+{
+    let job = job;
+    let weights = job.weights;
+    let w = weight_to(weights, v2) - weight_to(weights, v1);
+    stretch_factors(job.platform, w, v_at(job, v2))
+}
+
+// R_D + E_mem(d1, m1), which a fail-stop error costs beside what is done again, and R_M, which a silent one does.
+fn recoveries(job: Job, d1: usize, m1: usize, mem: u64) -> Recoveries
+    requires { ⌜ ReadyForRecoveries job mem ⌝ }
+    ensures { λ r. ⌜ RecoveriesAre job d1 m1 mem r ⌝ }
+{
+    let job = job;
+    Recoveries {
+        disk: rd_at(job, d1) + mem,
+        memory: rm_at(job, m1),
+    }
+}
+
+// (4)  E(d1, m1, v1, v2) = e^(λ_s W) ((e^(λ_f W) - 1) / λ_f + V*)
+//                        + e^(λ_s W) (e^(λ_f W) - 1) (R_D + E_mem(d1, m1))
+//                        + (e^((λ_s + λ_f) W) - 1) E_verif(d1, m1, v1)
+//                        + (e^(λ_s W) - 1) R_M
+pub fn e(job: Job, d1: usize, m1: usize, mem: u64, v1: usize, v2: usize) -> u64
+    requires { ⌜ ReadyForStretch job m1 mem v1 v2 ⌝ }
+    ensures { λ r. ⌜ (r ≡ E (chainOf job) d1 m1 mem v1 v2) × (r ≤ stretchCap) ⌝ }
+{
+    let job = job;
+    let f = growths(job, v1, v2);
+    if f.both == 0 {
+        return NONE;
+    }
+    let r = recoveries(job, d1, m1, mem);
+    stretch_time(f, r, e_verif(job, d1, m1, mem, v1))
+}

@@ -1,0 +1,22 @@
+// Reads a job sheet of up to 8 tasks from standard input and prints its plan by the equations as printed: the least time, then one digit a task; or the number
+// of its refusal.
+use job::TASK_LIMIT;
+use sheet::SHEET_ROOM;
+use sheet::layout::task_count;
+
+// The plan of the sheet.
+fn show(sheet: &[u8]) {
+    let mut marks = [0u8; TASK_LIMIT];
+    let answer = equations::printed(sheet, &mut marks);
+    console::plan(answer, marks, task_count(sheet));
+}
+
+fn main() {
+    let mut sheet = [0u8; SHEET_ROOM];
+    let taken = console::read_sheet(&mut sheet);
+    if taken.failed {
+        return;
+    }
+    let n = taken.n;
+    show(&sheet[..n]);
+}
