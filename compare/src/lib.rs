@@ -6,9 +6,9 @@
 //! - `random`: a generator of random numbers. Uses nothing.
 //! - `sheet_writer`, `log_writer`: how a sheet and an event's record are
 //!   written in bytes. They use `types`.
-//! - `reference`: document 01 read literally: `growth`, `stretch`, `sheet`,
-//!   `setting`, `plan`, `run`, `log`, `calls`, each using those before it. It
-//!   uses `types` and nothing else.
+//! - `reference`: document 01 and the requests read literally: `growth`,
+//!   `stretch`, `sheet`, `setting`, `plan`, `printed`, `join`, `run`, `log`,
+//!   `calls`, each using those before it. It uses `types` and nothing else.
 //! - `library`: the calls of the proved library. Uses `types`, `log_writer`
 //!   and, where a stand-in answers for the library, `reference`.
 //! - `harness`: random inputs (`marks`, `jobs`, `sheets`, `runs`), the counts

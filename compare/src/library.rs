@@ -7,10 +7,12 @@ use crate::log_writer;
 use crate::types::{Event, Outcome, Run};
 
 #[cfg(feature = "linked")]
-pub use linked::{follow, growth, join, lookup, mean_growth, plan, price, start, NAME};
+pub use linked::{follow, growth, join, lookup, mean_growth, plan, price, printed, start, NAME};
 
 #[cfg(not(feature = "linked"))]
-pub use crate::reference::calls::{follow, growth, join, lookup, mean_growth, plan, price, start};
+pub use crate::reference::calls::{
+    follow, growth, join, lookup, mean_growth, plan, price, printed, start,
+};
 
 #[cfg(not(feature = "linked"))]
 pub const NAME: &str = "stand-in (the reference itself, no library is compared)";
@@ -41,6 +43,7 @@ mod linked {
         ) -> Joined;
         fn pulvanor_price(s: *const u8, s_len: usize, m: *const u8, m_len: usize) -> Answer;
         fn pulvanor_plan(s: *const u8, s_len: usize, b: *mut u8, b_len: usize) -> Answer;
+        fn pulvanor_printed(s: *const u8, s_len: usize, b: *mut u8, b_len: usize) -> Answer;
         fn pulvanor_start(s: *const u8, s_len: usize, m: *const u8, m_len: usize) -> Outcome;
         fn pulvanor_follow(run: Run, log: *const u8, log_len: usize) -> Outcome;
     }
@@ -73,6 +76,11 @@ mod linked {
     pub fn plan(sheet: &[u8], buffer: &mut [u8]) -> Answer {
         let (start, len) = (buffer.as_mut_ptr(), buffer.len());
         unsafe { pulvanor_plan(sheet.as_ptr(), sheet.len(), start, len) }
+    }
+
+    pub fn printed(sheet: &[u8], buffer: &mut [u8]) -> Answer {
+        let (start, len) = (buffer.as_mut_ptr(), buffer.len());
+        unsafe { pulvanor_printed(sheet.as_ptr(), sheet.len(), start, len) }
     }
 
     pub fn start(sheet: &[u8], marks: &[u8]) -> Outcome {

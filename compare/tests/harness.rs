@@ -5,6 +5,7 @@ use compare::harness::jobs;
 use compare::harness::tally::{Call, Tally, NUMBERS, WANTED};
 use compare::random::Random;
 use compare::reference::plan;
+use compare::reference::printed::{self, MAX_PRINTED_TASKS};
 use compare::reference::setting::MAX_TIME;
 use compare::reference::sheet;
 
@@ -28,15 +29,30 @@ fn rows_agree_with_trying() {
     }
 }
 
+/// The equations as printed have the same plan, up to their longest chain.
+#[test]
+fn equations_agree_with_trying() {
+    let mut random = Random::new(11);
+    let mut compared = [0; MAX_PRINTED_TASKS + 1];
+    while compared.iter().skip(1).any(|&n| n < 10) {
+        let job = jobs::any(&mut random, MAX_PRINTED_TASKS).job;
+        if sheet::check_values(&job).is_err() || compared[job.tasks] == 10 {
+            continue;
+        }
+        assert_eq!(printed::by_equations(&job), plan::by_trying(&job));
+        compared[job.tasks] += 1;
+    }
+}
+
 /// A step is a log of one record, and a plan's marks have its price.
 #[test]
 fn no_differences_and_every_refusal() {
     let mut tally = Tally::default();
     let mut random = Random::new(5);
-    for _ in 0..3000 {
+    for _ in 0..6000 {
         check::one(&mut random, &mut tally);
     }
-    assert_eq!((tally.sheets, tally.differences), (3000, 0));
+    assert_eq!((tally.sheets, tally.differences), (6000, 0));
     assert!(tally.complete());
 }
 
@@ -56,7 +72,7 @@ fn complete_needs_every_number_and_every_edge_often() {
         assert!(!tally.complete());
         (0..WANTED).for_each(|_| tally.count(Call::Plan, number));
     }
-    let edges: [fn(&mut Tally) -> &mut u64; 8] = [
+    let edges: [fn(&mut Tally) -> &mut u64; 12] = [
         |t| &mut t.joins.of_64,
         |t| &mut t.joins.of_65,
         |t| &mut t.joins.at_total,
@@ -65,6 +81,10 @@ fn complete_needs_every_number_and_every_edge_often() {
         |t| &mut t.refills.stopped,
         |t| &mut t.refills.priced,
         |t| &mut t.refills.past_disk,
+        |t| &mut t.printed.of_8,
+        |t| &mut t.printed.of_9,
+        |t| &mut t.printed.long_and_short,
+        |t| &mut t.printed.both,
     ];
     for edge in edges {
         assert!(!tally.complete());

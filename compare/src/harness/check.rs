@@ -12,6 +12,7 @@ use crate::random::Random;
 use crate::reference::calls;
 use crate::reference::growth::EXPONENT_LIMIT;
 use crate::reference::plan::{self, MAX_TRIED_TASKS};
+use crate::reference::printed::MAX_PRINTED_TASKS;
 use crate::reference::run::{self, History};
 use crate::reference::setting::{self, MAX_TIME};
 use crate::reference::sheet;
@@ -47,6 +48,7 @@ impl Check<'_> {
         joins::one(self.random, self.tally, &self.sheet, &case.job);
         let job = sheet::read(&self.sheet);
         self.plan(case.job.tasks);
+        self.printed(case.job.tasks, job.is_ok());
         let Ok(job) = job else {
             let marks = marks::for_sheet(self.random, case.job.tasks);
             self.price(&marks);
@@ -151,6 +153,45 @@ impl Check<'_> {
         if reference.number == 0 {
             self.price_of_plan(lent.buffer(), reference.time);
         }
+    }
+
+    /// The equations as printed, into a buffer that holds the marks and, now
+    /// and then, into a short one too.
+    fn printed(&mut self, n: usize, read: bool) {
+        let long = n > MAX_PRINTED_TASKS && self.random.chance(50);
+        let size = if long { self.random.index(n) } else { self.buffer_size(n) };
+        self.printed_into(size, read);
+        if size < n {
+            self.printed_into(n, read);
+        }
+    }
+
+    /// The equations as printed, and the planner beside them: a sheet that is
+    /// not too long for them has one answer.
+    fn printed_into(&mut self, size: usize, read: bool) {
+        let mut lent = Lent::new(self.random, size);
+        let (mut printed_lent, mut planned_lent) = (lent.clone(), lent.clone());
+        let printed = library::printed(&self.sheet, printed_lent.buffer());
+        let reference = calls::printed(&self.sheet, lent.buffer());
+        self.tally.count(Call::Printed, reference.number);
+        let (library, expected) = ((printed, &printed_lent), (reference, &lent));
+        self.tally.same("the equations", &self.sheet, &size, &library, &expected);
+        if !read || usize::from(self.sheet[1]) <= MAX_PRINTED_TASKS {
+            let planned = library::plan(&self.sheet, planned_lent.buffer());
+            let (one, other) = ((printed, &printed_lent), (planned, &planned_lent));
+            self.tally.same("both engines", &self.sheet, &size, &one, &other);
+        }
+        self.count_printed(size, reference.number);
+    }
+
+    /// Counts edges of the equations' answers.
+    fn count_printed(&mut self, size: usize, number: u64) {
+        let edges = &mut self.tally.printed;
+        let n = self.sheet.get(1).map_or(0, |&n| usize::from(n));
+        edges.both += u64::from(number == 0);
+        edges.of_8 += u64::from(number == 0 && n == MAX_PRINTED_TASKS);
+        edges.of_9 += u64::from(number == 27 && n == MAX_PRINTED_TASKS + 1);
+        edges.long_and_short += u64::from(number == 27 && size < n);
     }
 
     /// The price of the plan's marks is the plan's time.

@@ -9,15 +9,17 @@ pub enum Call {
     Join,
     Price,
     Plan,
+    Printed,
     Start,
     Step,
     Follow,
 }
 
-const CALLS: [&str; 7] = ["lookup", "join", "price", "plan", "start", "step", "follow"];
+const CALLS: [&str; 8] = ["lookup", "join", "price", "plan", "printed", "start", "step", "follow"];
 
 /// Every refusal number of document 01 and of the requests.
-pub const NUMBERS: [u64; 19] = [1, 2, 3, 4, 5, 6, 7, 8, 9, 10, 11, 12, 13, 21, 22, 23, 24, 25, 26];
+pub const NUMBERS: [u64; 20] =
+    [1, 2, 3, 4, 5, 6, 7, 8, 9, 10, 11, 12, 13, 21, 22, 23, 24, 25, 26, 27];
 
 /// How often each refusal is to be seen in the default run.
 pub const WANTED: u64 = 100;
@@ -46,6 +48,19 @@ pub struct Refills {
     pub past_disk: u64,
 }
 
+/// Answers of the equations as printed at an edge (request 104).
+#[derive(Default)]
+pub struct Printed {
+    /// Plans of 8 tasks.
+    pub of_8: u64,
+    /// Sheets of 9 tasks, refused by 27.
+    pub of_9: u64,
+    /// Sheets refused by 27 though the buffer is short too.
+    pub long_and_short: u64,
+    /// Plans of up to 8 tasks, by both engines.
+    pub both: u64,
+}
+
 #[derive(Default)]
 pub struct Tally {
     pub sheets: u64,
@@ -55,8 +70,9 @@ pub struct Tally {
     pub over_limit: u64,
     pub joins: Joins,
     pub refills: Refills,
+    pub printed: Printed,
     pub differences: u64,
-    counts: [[u64; 27]; 7],
+    counts: [[u64; 28]; 8],
 }
 
 fn hex(bytes: &[u8]) -> String {
@@ -100,8 +116,8 @@ impl Tally {
     }
 
     /// How often each edge of the requests was seen.
-    fn edges(&self) -> [(&'static str, u64); 8] {
-        let (j, r) = (&self.joins, &self.refills);
+    fn edges(&self) -> [(&'static str, u64); 12] {
+        let (j, r, p) = (&self.joins, &self.refills, &self.printed);
         [
             ("joined, 64 tasks", j.of_64),
             ("refused, 65", j.of_65),
@@ -111,6 +127,10 @@ impl Tally {
             ("refills, Stopped", r.stopped),
             ("refills, priced", r.priced),
             ("with m past d", r.past_disk),
+            ("printed, 8 tasks", p.of_8),
+            ("refused, 9", p.of_9),
+            ("27 before 11", p.long_and_short),
+            ("by both engines", p.both),
         ]
     }
 
@@ -140,6 +160,7 @@ impl Tally {
         self.edges().iter().for_each(|(name, seen)| println!("{name:<18}{seen}"));
         println!("settings priced   {}", self.calls(Call::Price));
         println!("plans             {}", self.calls(Call::Plan));
+        println!("plans as printed  {}", self.calls(Call::Printed));
         println!("starts            {}", self.calls(Call::Start));
         println!("steps             {}", self.calls(Call::Step));
         println!("logs              {}", self.calls(Call::Follow));

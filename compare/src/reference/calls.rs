@@ -5,6 +5,7 @@ use crate::reference::growth::{g, h};
 use crate::reference::join as joiner;
 use crate::reference::log;
 use crate::reference::plan as planner;
+use crate::reference::printed as equations;
 use crate::reference::run::{self, History};
 use crate::reference::setting;
 use crate::reference::sheet;
@@ -66,12 +67,20 @@ pub fn price(bytes: &[u8], marks: &[u8]) -> Answer {
     answer(setting::price(bytes, marks))
 }
 
-pub fn plan(bytes: &[u8], buffer: &mut [u8]) -> Answer {
-    let result = planner::plan(bytes, buffer.len());
+/// A plan's marks go to the front of the buffer.
+fn planned(result: Result<(u64, Vec<u8>), Refusal>, buffer: &mut [u8]) -> Answer {
     if let Ok((_, marks)) = &result {
         buffer[..marks.len()].copy_from_slice(marks);
     }
     answer(result.map(|(time, _)| time))
+}
+
+pub fn plan(bytes: &[u8], buffer: &mut [u8]) -> Answer {
+    planned(planner::plan(bytes, buffer.len()), buffer)
+}
+
+pub fn printed(bytes: &[u8], buffer: &mut [u8]) -> Answer {
+    planned(equations::printed(bytes, buffer.len()), buffer)
 }
 
 pub fn start(bytes: &[u8], marks: &[u8]) -> Outcome {

@@ -5,6 +5,7 @@ pub mod growth;
 pub mod join;
 pub mod log;
 pub mod plan;
+pub mod printed;
 pub mod run;
 pub mod setting;
 pub mod sheet;

@@ -70,21 +70,21 @@ pub fn by_trying(job: &Job) -> Plan {
 /// one with the earlier position at the first difference is the smaller
 /// number, so the derived order is least time first, then the rule for ties.
 #[derive(Clone, Copy, Debug, PartialEq, Eq, PartialOrd, Ord)]
-struct Part {
-    time: u128,
-    disk: u64,
-    mem: u64,
-    any: u64,
+pub struct Part {
+    pub time: u128,
+    pub disk: u64,
+    pub mem: u64,
+    pub any: u64,
 }
 
 /// The least part to each position, or none yet.
 type Row = Vec<Option<Part>>;
 
 impl Part {
-    const EMPTY: Part = Part { time: 0, disk: 0, mem: 0, any: 0 };
+    pub const EMPTY: Part = Part { time: 0, disk: 0, mem: 0, any: 0 };
 
     /// This part, then the next one.
-    fn then(self, next: Part) -> Part {
+    pub fn then(self, next: Part) -> Part {
         Part {
             time: (self.time + next.time).min(CEILING),
             disk: self.disk | next.disk,
@@ -93,13 +93,13 @@ impl Part {
         }
     }
 
-    fn marks(&self, n: usize) -> Vec<u8> {
+    pub fn marks(&self, n: usize) -> Vec<u8> {
         let has = |set: u64, p: usize| u8::from(set & bit(p) != 0);
         (1..=n).map(|p| has(self.any, p) + has(self.mem, p) + has(self.disk, p)).collect()
     }
 }
 
-fn bit(position: usize) -> u64 {
+pub fn bit(position: usize) -> u64 {
     1 << (position - 1)
 }
 

@@ -6,10 +6,13 @@ use mathlib.Core.Logic.{_≢_, _⊎_, inl, inr}
 use mathlib.Core.Bool.{Bool, true, false, cond}
 use native.Mathlib.Decide.{decLe, decLt, ℕ-discrete}
 use native.Mathlib.Omega.{arith}
+use borrow.Author.Tests.{lt-ltb, le-ltb}
 use Rattle.units.specs.Limits.{none}
 use Rattle.chain.specs.Chain.{Chain}
 use Rattle.chain.specs.Working.Search.{Cost, reach, way, back, toVerification, leastQ, toMemory, leastM, toDisk, leastD, backD, backM, backQ, bestQ}
 use Rattle.chain.proofs.Search.{IsBack, least-le, reach-is, reach-cap, way-is, back-is, back-from, back-first, leastQ-start, leastM-start, leastD-start}
+use Rattle.equations.specs.declared.walk.Best.{Best}
+use Rattle.equations.specs.Working.Places.{lesser}
 use Rattle.equations.specs.Equations.{Attained, IsMin, IsEarliest, byDisk, byMemory, byVerification, DiskEquation, MemoryEquation, VerificationEquation}
 
 -- a min over nothing, over one position more, and no other
@@ -43,49 +46,49 @@ module _ (a : ℕ) (f : ℕ → ℕ) where
       go (no l) (yes k) = absurd (not-below s t j i k)
       go (no l) (no k) = omega arith
 
--- the min over the positions seen so far, and the earliest that gives it
-pub record Sought (a k : ℕ) (f : ℕ → ℕ) (t u : ℕ) : Type 0 where
-  pub least : IsMin a k f t
-  pub earliest : t < none → IsEarliest a k f t u
+-- the min over the positions offered so far, and the earliest that gives it
+pub record Sought (a k : ℕ) (f : ℕ → ℕ) (best : Best) : Type 0 where
+  pub least : IsMin a k f (best .time)
+  pub earliest : best .time < none → IsEarliest a k f (best .time) (best .at)
 
 module _ (a : ℕ) (f : ℕ → ℕ) where
-  pub sought-first : (u : ℕ) → Sought a a f none u
+  pub sought-first : (u : ℕ) → Sought a a f (record { time = none; at = u })
   sought-first u = record { least = min-first a f; earliest = λ h. absurd (omega arith) }
 
-  module _ (k t u : ℕ) (h : a ≤ k) (s : Sought a k f t u) where
+  module _ (k : ℕ) (best : Best) (h : a ≤ k) (s : Sought a k f best) where
     -- a lesser time is the new least, and its position the only one
-    pub sought-new : (x : ℕ) → x ≡ f k → x < t → Sought a (k + 1) f x k
-    sought-new x e l =
-        let m : min t (f k) ≡ x = omega arith in
+    sought-new : f k < best .time → Sought a (k + 1) f (record { time = f k; at = k })
+    sought-new l =
+        let m : min (best .time) (f k) ≡ f k = omega arith in
         record {
-          least = rw m at (min-more a f k t h (s .least));
-          earliest =
-              λ _.
-              record {
-                from = h;
-                before = omega arith;
-                value = sym e;
-                first = λ w p q. omega (arith, s .least .lower w p q);
-              };
+          least = rw m at (min-more a f k (best .time) h (s .least));
+          earliest = λ _. record { from = h; before = omega arith; value = refl; first = λ w p q. omega (arith, s .least .lower w p q) };
         }
 
     -- any other, a tie too, changes nothing
-    pub sought-old : (x : ℕ) → x ≡ f k → t ≤ x → Sought a (k + 1) f t u
-    sought-old x e l =
-        let m : min t (f k) ≡ t = omega arith in
+    sought-old : best .time ≤ f k → Sought a (k + 1) f best
+    sought-old l =
+        let m : min (best .time) (f k) ≡ best .time = omega arith in
         record {
-          least = rw m at (min-more a f k t h (s .least));
+          least = rw m at (min-more a f k (best .time) h (s .least));
           earliest =
               λ z.
               let i = s .earliest z in
               record { from = i .from; before = omega (arith, i .before); value = i .value; first = i .first };
         }
 
+    pub sought-more : Sought a (k + 1) f (lesser best k (f k))
+    sought-more = go (decLt (f k) (best .time))
+      where
+        go : Dec (f k < best .time) → Sought a (k + 1) f (lesser best k (f k))
+        go (yes l) = rw (lt-ltb (f k) (best .time) l) (sought-new l)
+        go (no l) = rw (le-ltb (f k) (best .time) (omega arith)) (sought-old (omega arith))
+
   -- at the end it is the earliest that gives the least time
-  pub sought-last : (b t s u : ℕ) → Sought a b f t u → IsMin a b f s → s < none → IsEarliest a b f s u
-  sought-last b t s u h i l =
-      let e : t ≡ s = min-once a f b t s (h .least) i in
-      rw e at (h .earliest (omega arith))
+  pub sought-last : (b t : ℕ) (best : Best) → Sought a b f best → IsMin a b f t → t < none → IsEarliest a b f t (best .at)
+  sought-last b t best s i l =
+      let e : best .time ≡ t = min-once a f b (best .time) t (s .least) i in
+      rw e at (s .earliest (omega arith))
 
 -- x and y are the same time, or both are none
 abbrev pub Alike : ℕ → ℕ → Type 0

@@ -28,7 +28,6 @@ fn print_job(job: Job, buffer: &mut [u8]) -> Answer
     requires { ⌜ ReadyForJob job (now buffer) ⌝ }
     ensures { λ r. ⌜ PlansChain (chainOf job) (job .tasks) (now (buffer .entry)) (now (buffer .exit)) r ⌝ }
 {
-    let job = job;
     let n = job.tasks;
     let least = e_disk(job, n);
     if NONE <= least {
@@ -48,10 +47,12 @@ pub fn printed(s: &[u8], buffer: &mut [u8]) -> Answer
         return refused(reading.number);
     }
     let job = reading.job;
-    if PRINTED_LIMIT < job.tasks {
+    let n = job.tasks;
+    let room = buffer.len();
+    if PRINTED_LIMIT < n {
         return refused(LONG_CHAIN);
     }
-    if buffer.len() < job.tasks {
+    if room < n {
         return refused(SHORT_BUFFER);
     }
     print_job(job, buffer)

@@ -1,6 +1,10 @@
-// Section 3.1 of source document 000 as printed: its four functions call each other, and nothing is kept. d1, m1 and v1 are the last disk copy, memory copy and
-// verification before d2, m2 and v2; `mem` is E_mem(d1, m1). NONE stands for every time of 2^34 ticks or more, and for that over a stretch that is not allowed.
-// The marks and the plan call these, for a job that has passed checks 3, 7 and 8.
+// Section 3.1 of source document 000 as printed. Its functions ask each other, E_verif and E in a cycle in which the end position falls, and nothing is kept.
+//
+//     0 ───────── d1 ─────── m1 ───── v1 ───── v2
+//                disk      memory   verification, and this one
+//
+// `mem` is E_mem(d1, m1). NONE stands for every time of 2^34 ticks or more, and for that over a stretch that is not allowed.
+// The walk and the plan call these, for a job that has passed checks 3, 7 and 8.
 ghost use mathlib.Core.Path.{_≡_};
 ghost use Prim.Native.Nat.{min, _≤_};
 ghost use Rattle.chain.specs.Working.Factors.{stretchCap};
@@ -21,6 +25,7 @@ use job::Job;
 use job::totals::weight_to;
 use units::NONE;
 
+// The lesser of two times.
 fn min(a: u64, b: u64) -> u64
     ensures { λ r. ⌜ r ≡ min a b ⌝ }
 {
@@ -35,7 +40,6 @@ pub fn e_disk(job: Job, d2: usize) -> u64
     requires { ⌜ ReadyForDisk job d2 ⌝ }
     ensures { λ r. ⌜ DiskEquation (chainOf job) d2 r ⌝ }
 {
-    let job = job;
     if d2 == 0 {
         return 0;
     }
@@ -53,7 +57,6 @@ pub fn e_mem(job: Job, d1: usize, m2: usize) -> u64
     requires { ⌜ ReadyForMemory job d1 m2 ⌝ }
     ensures { λ r. ⌜ MemoryEquation (chainOf job) d1 m2 r ⌝ }
 {
-    let job = job;
     if m2 == d1 {
         return 0;
     }
@@ -72,7 +75,6 @@ pub fn e_verif(job: Job, d1: usize, m1: usize, mem: u64, v2: usize) -> u64
     requires { ⌜ ReadyForVerification job m1 mem v2 ⌝ }
     ensures { λ r. ⌜ VerificationEquation (chainOf job) d1 m1 mem v2 r ⌝ }
 {
-    let job = job;
     if v2 == m1 {
         return 0;
     }
@@ -93,7 +95,6 @@ fn growths(job: Job, v1: usize, v2: usize) -> Factors
     requires { ⌜ ReadyForFactors job v1 v2 ⌝ }
     ensures { λ r. ⌜ r ≡ factorsAt job v1 v2 ⌝ }
 {
-    let job = job;
     let weights = job.weights;
     let w = weight_to(weights, v2) - weight_to(weights, v1);
     stretch_factors(job.platform, w, v_at(job, v2))
@@ -104,9 +105,9 @@ fn recoveries(job: Job, d1: usize, m1: usize, mem: u64) -> Recoveries
     requires { ⌜ ReadyForRecoveries job mem ⌝ }
     ensures { λ r. ⌜ RecoveriesAre job d1 m1 mem r ⌝ }
 {
-    let job = job;
+    let disk = rd_at(job, d1) + mem;
     Recoveries {
-        disk: rd_at(job, d1) + mem,
+        disk,
         memory: rm_at(job, m1),
     }
 }
@@ -114,12 +115,12 @@ fn recoveries(job: Job, d1: usize, m1: usize, mem: u64) -> Recoveries
 // (4)  E(d1, m1, v1, v2) = e^(λ_s W) ((e^(λ_f W) - 1) / λ_f + V*)
 //                        + e^(λ_s W) (e^(λ_f W) - 1) (R_D + E_mem(d1, m1))
 //                        + (e^((λ_s + λ_f) W) - 1) E_verif(d1, m1, v1)
-//                        + (e^(λ_s W) - 1) R_M
+//                        + (e^(λ_s W) - 1) R_M,
+// its parts rounded up one by one. What has to be done again is asked of E_verif. The growth of both errors is 0 where the stretch is not allowed.
 pub fn e(job: Job, d1: usize, m1: usize, mem: u64, v1: usize, v2: usize) -> u64
     requires { ⌜ ReadyForStretch job m1 mem v1 v2 ⌝ }
     ensures { λ r. ⌜ (r ≡ E (chainOf job) d1 m1 mem v1 v2) × (r ≤ stretchCap) ⌝ }
 {
-    let job = job;
     let f = growths(job, v1, v2);
     if f.both == 0 {
         return NONE;

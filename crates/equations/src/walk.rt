@@ -5,7 +5,7 @@ ghost use Rattle.units.specs.Limits.{none};
 ghost use Rattle.chain.specs.Working.Walk.{diskPlace, Before, PlannedMarks};
 ghost use Rattle.costs.specs.Stretch.{chainOf};
 ghost use Rattle.equations.specs.Equations.{IsEarliest, E-disk, E-mem, E-verif, byDisk, byMemory, byVerification};
-ghost use Rattle.equations.specs.Working.Places.{placeOf, ReadyForLastDisk, ReadyForLastMemory, ReadyForLastVerification, ReadyToStep, ReadyForMarks};
+ghost use Rattle.equations.specs.Working.Places.{lesser, placeOf, ReadyForLastDisk, ReadyForLastMemory, ReadyForLastVerification, ReadyToStep, ReadyForMarks};
 use crate::times::e;
 use crate::times::e_disk;
 use crate::times::e_mem;
@@ -27,24 +27,38 @@ pub struct Place {
     pub v: usize,
 }
 
-// The earliest d1 that gives E_disk(d2): on a tie the one found first stays.
+// The least time of the positions offered so far, and the earliest that gives it.
+pub struct Best {
+    pub time: u64,
+    pub at: usize,
+}
+
+// One position more: the lesser time stays, and on a tie the earlier position.
+fn offer(best: Best, at: usize, time: u64) -> Best
+    ensures { λ r. ⌜ r ≡ lesser best at time ⌝ }
+{
+    if time < best.time {
+        return Best { time, at };
+    }
+    best
+}
+
+// The earliest d1 that gives E_disk(d2).
 fn last_disk(job: Job, d2: usize) -> usize
     requires { ⌜ ReadyForLastDisk job d2 ⌝ }
     ensures { λ r. ⌜ IsEarliest 0 d2 (byDisk (chainOf job) d2) (E-disk (chainOf job) d2) r ⌝ }
 {
-    let job = job;
-    let mut least = NONE;
-    let mut last: usize = 0;
+    let mut best = Best { time: NONE, at: 0 };
     let mut d1: usize = 0;
     while d1 < d2 {
-        let time = e_disk(job, d1) + e_mem(job, d1, d2) + cd_at(job, d2);
-        if time < least {
-            least = time;
-            last = d1;
-        }
+        best = offer(
+            best,
+            d1,
+            e_disk(job, d1) + e_mem(job, d1, d2) + cd_at(job, d2),
+        );
         d1 += 1;
     }
-    last
+    best.at
 }
 
 // The earliest m1 that gives E_mem(d1, m2).
@@ -52,20 +66,18 @@ fn last_memory(job: Job, d1: usize, m2: usize) -> usize
     requires { ⌜ ReadyForLastMemory job d1 m2 ⌝ }
     ensures { λ r. ⌜ IsEarliest d1 m2 (byMemory (chainOf job) d1 m2) (E-mem (chainOf job) d1 m2) r ⌝ }
 {
-    let job = job;
-    let mut least = NONE;
-    let mut last = d1;
+    let mut best = Best { time: NONE, at: d1 };
     let mut m1 = d1;
     while m1 < m2 {
         let mem = e_mem(job, d1, m1);
-        let time = mem + e_verif(job, d1, m1, mem, m2) + cm_at(job, m2);
-        if time < least {
-            least = time;
-            last = m1;
-        }
+        best = offer(
+            best,
+            m1,
+            mem + e_verif(job, d1, m1, mem, m2) + cm_at(job, m2),
+        );
         m1 += 1;
     }
-    last
+    best.at
 }
 
 // The earliest v1 that gives E_verif(d1, m1, v2), where `mem` is E_mem(d1, m1).
@@ -73,19 +85,17 @@ fn last_verification(job: Job, d1: usize, m1: usize, mem: u64, v2: usize) -> usi
     requires { ⌜ ReadyForLastVerification job d1 m1 mem v2 ⌝ }
     ensures { λ r. ⌜ IsEarliest m1 v2 (byVerification (chainOf job) d1 m1 mem v2) (E-verif (chainOf job) d1 m1 mem v2) r ⌝ }
 {
-    let job = job;
-    let mut least = NONE;
-    let mut last = m1;
+    let mut best = Best { time: NONE, at: m1 };
     let mut v1 = m1;
     while v1 < v2 {
-        let time = e_verif(job, d1, m1, mem, v1) + e(job, d1, m1, mem, v1, v2);
-        if time < least {
-            least = time;
-            last = v1;
-        }
+        best = offer(
+            best,
+            v1,
+            e_verif(job, d1, m1, mem, v1) + e(job, d1, m1, mem, v1, v2),
+        );
         v1 += 1;
     }
-    last
+    best.at
 }
 
 // The place at the disk copy v.
@@ -93,7 +103,6 @@ fn at_disk(job: Job, v: usize) -> Place
     requires { ⌜ ReadyForLastDisk job v ⌝ }
     ensures { λ r. ⌜ placeOf r ≡ diskPlace (chainOf job) none v ⌝ }
 {
-    let job = job;
     let d = last_disk(job, v);
     Place {
         k: DISK,
@@ -108,7 +117,6 @@ fn step_back(job: Job, w: Place) -> Place
     requires { ⌜ ReadyToStep job w ⌝ }
     ensures { λ r. ⌜ Before (chainOf job) none (placeOf w) (placeOf r) ⌝ }
 {
-    let job = job;
     let d = w.d;
     let m = w.m;
     let u = last_verification(job, d, m, e_mem(job, d, m), w.v);
@@ -139,7 +147,6 @@ pub fn plan_marks(job: Job) -> [u8; TASK_LIMIT]
     requires { ⌜ ReadyForMarks job ⌝ }
     ensures { λ r. ⌜ PlannedMarks (chainOf job) none (job .tasks) r ⌝ }
 {
-    let job = job;
     let mut marks = [0u8; TASK_LIMIT];
     let mut w = at_disk(job, job.tasks);
     while 0 < w.v {

@@ -29,9 +29,9 @@ refused-requires-2 c κs = search needs
 
 returns-2 : tie.Need-returns-2
 returns-2 c =
-    let read-job = c .before .before .before .before .before .before .read-job in
+    let read-job = c .before .before .before .before .before .read-job in
     let number = ap (λ (r : JobReading). r .number) (read-job .ensures) ∙ reading-number _ in
-    let clear = sym number ∙ c .before .before .before .before .if1 .left in
+    let clear = sym number ∙ c .before .before .before .if1 .left in
     let job = ap (λ (r : JobReading). r .job) (read-job .ensures) ∙ reading-job _ clear in
     let long = printed-long _ clear (rw job at (c .before .if2 .taken)) in
     rw (c .refused2 .ensures, ← long) (checked-answer _ _ _ _ (omega (arith, long)))
@@ -41,17 +41,17 @@ refused-requires-3 c κs = search needs
 
 returns-3 : tie.Need-returns-3
 returns-3 c =
-    let read-job = c .before .before .before .before .before .before .before .before .read-job in
+    let read-job = c .before .before .before .before .before .before .read-job in
     let number = ap (λ (r : JobReading). r .number) (read-job .ensures) ∙ reading-number _ in
-    let clear = sym number ∙ c .before .before .before .before .before .before .if1 .left in
+    let clear = sym number ∙ c .before .before .before .before .if1 .left in
     let job = ap (λ (r : JobReading). r .job) (read-job .ensures) ∙ reading-job _ clear in
-    rw (c .refused3 .ensures) (short-answer _ _ _ _ (printed-clear _ clear (rw job at (c .before .before .before .if2 .left))) (rw job at (c .before .if3 .taken)))
+    rw (c .refused3 .ensures) (short-answer _ _ _ _ (printed-clear _ clear (rw job at (c .before .before .if2 .left))) (rw job at (c .before .if3 .taken)))
 
 print-job-requires : tie.Need-print-job-requires
 print-job-requires c κs =
-    let read-job = c .before .before .before .before .before .before .before .before .read-job in
+    let read-job = c .before .before .before .before .before .before .read-job in
     let number = ap (λ (r : JobReading). r .number) (read-job .ensures) ∙ reading-number _ in
-    let clear = sym number ∙ c .before .before .before .before .before .before .if1 .left in
+    let clear = sym number ∙ c .before .before .before .before .if1 .left in
     let job = ap (λ (r : JobReading). r .job) (read-job .ensures) ∙ reading-job _ clear in
     record { sound = rw job (sheet-sound _ clear); room = c .before .if3 .left }
 
@@ -60,11 +60,11 @@ same-length c = search needs
 
 returns-4 : tie.Need-returns-4
 returns-4 c =
-    let read-job = c .before .before .before .before .before .before .before .before .before .before .before .read-job in
+    let read-job = c .before .before .before .before .before .before .before .before .before .read-job in
     let number = ap (λ (r : JobReading). r .number) (read-job .ensures) ∙ reading-number _ in
-    let clear = sym number ∙ c .before .before .before .before .before .before .before .before .before .if1 .left in
+    let clear = sym number ∙ c .before .before .before .before .before .before .before .if1 .left in
     let job = ap (λ (r : JobReading). r .job) (read-job .ensures) ∙ reading-job _ clear in
-    chain-answer _ _ _ _ _ _ (printed-clear _ clear (rw job at (c .before .before .before .before .before .before .if2 .left))) (rw job at (c .before .before .before .before .if3 .left)) (rw job at (c .before .before .print-job .ensures))
+    chain-answer _ _ _ _ _ _ (printed-clear _ clear (rw job at (c .before .before .before .before .before .if2 .left))) (rw job at (c .before .before .before .before .if3 .left)) (rw job at (c .before .before .print-job .ensures))
 
 pub printed-spec : {M : Type 1} → statement M
 printed-spec =

@@ -1,12 +1,19 @@
 -- The places of the walk back, and what each of its functions asks: least times below none, so that there is a position before.
 use Prim.Native.Nat.{ℕ, _≤_, _<_}
+use mathlib.Core.Bool.{cond}
+use lib.Dec.{ltb}
 use Rattle.units.specs.Limits.{none}
 use Rattle.chain.specs.Working.Search.{leastQ, leastM, leastD}
 use Rattle.chain.specs.Working.Walk.{Place, OnWay}
 use Rattle.job.specs.Working.Sound.{Sound}
 use Rattle.job.specs.declared.Job.{Job}
 use Rattle.costs.specs.Stretch.{chainOf}
+use Rattle.equations.specs.declared.walk.Best.{Best}
 use Rattle.equations.specs.declared.walk.Place as code
+
+-- the least so far, with one position more: on a tie the earlier one stays
+abbrev pub lesser : Best → (at time : ℕ) → Best
+lesser best at time = cond (ltb time (best .time)) (record { time = time; at = at }) best
 
 -- the theory's place of one in code
 abbrev pub placeOf : code.Place → Place

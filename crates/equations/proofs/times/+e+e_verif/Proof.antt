@@ -150,10 +150,10 @@ e-returns-2 t c =
     )
 
 abbrev e-verif-Inv-loop : e-verif-lts.InvT-loop
-e-verif-Inv-loop d1 m1 mem v2 job least₀ v1₀ least v1 = (m1 ≤ v1) × (v1 ≤ v2) × IsMin m1 v1 (byVerification (chainOf job) d1 m1 mem v2) least
+e-verif-Inv-loop job d1 m1 mem v2 least₀ v1₀ least v1 = (m1 ≤ v1) × (v1 ≤ v2) × IsMin m1 v1 (byVerification (chainOf job) d1 m1 mem v2) least
 
 abbrev e-verif-μ-loop : e-verif-lts.MeasureT-loop
-e-verif-μ-loop d1 m1 mem v2 job least₀ v1₀ least v1 = v2 - v1
+e-verif-μ-loop job d1 m1 mem v2 least₀ v1₀ least v1 = v2 - v1
 
 e-verif-returns : (t : ℕ) → e-verif-lts.Need-returns (
   e-verif-below t,

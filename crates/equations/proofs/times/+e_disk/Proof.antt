@@ -28,10 +28,10 @@ abbrev e-disk-below : ℕ → In 0 e-disk-kinds.ps
 e-disk-below t = and 0 e-disk-kinds.ps (falls 0 e-disk-kinds.ps _<_ μ-e-disk t) e-disk.Pre
 
 abbrev e-disk-Inv-loop : e-disk-lts.InvT-loop
-e-disk-Inv-loop d2 job least₀ d1₀ least d1 = (d1 ≤ d2) × IsMin 0 d1 (byDisk (chainOf job) d2) least
+e-disk-Inv-loop job d2 least₀ d1₀ least d1 = (d1 ≤ d2) × IsMin 0 d1 (byDisk (chainOf job) d2) least
 
 abbrev e-disk-μ-loop : e-disk-lts.MeasureT-loop
-e-disk-μ-loop d2 job least₀ d1₀ least d1 = d2 - d1
+e-disk-μ-loop job d2 least₀ d1₀ least d1 = d2 - d1
 
 e-disk-returns : (t : ℕ) → e-disk-lts.Need-returns (
   e-disk-below t,

@@ -28,10 +28,10 @@ abbrev e-mem-below : ℕ → In 0 e-mem-kinds.ps
 e-mem-below t = and 0 e-mem-kinds.ps (falls 0 e-mem-kinds.ps _<_ μ-e-mem t) e-mem.Pre
 
 abbrev e-mem-Inv-loop : e-mem-lts.InvT-loop
-e-mem-Inv-loop d1 m2 job least₀ m1₀ least m1 = (d1 ≤ m1) × (m1 ≤ m2) × IsMin d1 m1 (byMemory (chainOf job) d1 m2) least
+e-mem-Inv-loop job d1 m2 least₀ m1₀ least m1 = (d1 ≤ m1) × (m1 ≤ m2) × IsMin d1 m1 (byMemory (chainOf job) d1 m2) least
 
 abbrev e-mem-μ-loop : e-mem-lts.MeasureT-loop
-e-mem-μ-loop d1 m2 job least₀ m1₀ least m1 = m2 - m1
+e-mem-μ-loop job d1 m2 least₀ m1₀ least m1 = m2 - m1
 
 e-mem-returns : (t : ℕ) → e-mem-lts.Need-returns (
   e-mem-below t,

@@ -8,8 +8,8 @@ use Rattle.equations.proofs.times.recoveries.Tie as tie
 rd-at-requires : tie.Need-rd-at-requires
 rd-at-requires c κs = search needs
 
-add-t7 : tie.Need-add-t7
-add-t7 c = search needs
+add-disk : tie.Need-add-disk
+add-disk c = search needs
 
 rm-at-requires : tie.Need-rm-at-requires
 rm-at-requires c κs = search needs
@@ -29,4 +29,4 @@ returns c =
     }
 
 pub recoveries-spec : {M : Type 1} → statement M
-recoveries-spec = tie.close (tie.spec rd-at-requires add-t7 rm-at-requires returns)
+recoveries-spec = tie.close (tie.spec rd-at-requires add-disk rm-at-requires returns)

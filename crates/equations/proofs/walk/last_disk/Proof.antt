@@ -1,20 +1,20 @@
--- `equations::walk::last_disk` meets its contract. The loop's invariant: the min over the positions seen so far, and the earliest that gives it. Assumes nothing.
-use Prim.Native.Nat.{ℕ, _+_, _-_, _≤_}
+-- `equations::walk::last_disk` meets its contract. The loop's invariant: the least time of the positions offered so far, and the earliest that gives it. Assumes
+-- nothing.
+use Prim.Native.Nat.{_-_, _≤_}
 use mathlib.Core.Path.{_≡_}
-use mathlib.Core.Logic.{⊎-elim}
 use native.Mathlib.Omega.{arith}
 use Rattle.costs.specs.Stretch.{chainOf}
 use Rattle.equations.specs.Equations.{byDisk}
-use Rattle.equations.proofs.Minima.{Sought, sought-first, sought-new, sought-old, sought-last, disk-min}
+use Rattle.equations.proofs.Minima.{Sought, sought-first, sought-more, sought-last, disk-min}
 use Rattle.equations.proofs.Levels.{disk-cap, memory-cap}
 use Rattle.equations.proofs.walk.last_disk.Statement.{statement}
 use Rattle.equations.proofs.walk.last_disk.Tie as tie
 
 abbrev Inv-loop : tie.InvT-loop
-Inv-loop d2 job least₀ last₀ d1₀ least last d1 = (0 ≤ d1) × (d1 ≤ d2) × Sought 0 d1 (byDisk (chainOf job) d2) least last
+Inv-loop job d2 best₀ d1₀ best d1 = (0 ≤ d1) × (d1 ≤ d2) × Sought 0 d1 (byDisk (chainOf job) d2) best
 
 abbrev μ-loop : tie.MeasureT-loop
-μ-loop d2 job least₀ last₀ d1₀ least last d1 = d2 - d1
+μ-loop job d2 best₀ d1₀ best d1 = d2 - d1
 
 loop-holds : tie.Need-loop-holds Inv-loop μ-loop
 loop-holds c = (omega arith, omega arith, sought-first _ _ _)
@@ -29,8 +29,8 @@ e-mem-requires c κs =
     let pre = c .before .before .before .pre in
     record { sound = pre .sound; start = c .before .before .loop .inv .1; end = pre .end }
 
-add-time : tie.Need-add-time Inv-loop μ-loop
-add-time c =
+add-offer : tie.Need-add-offer Inv-loop μ-loop
+add-offer c =
     let args = c .before .before .before .before .args in
     let loop = c .before .before .before .loop in
     omega (
@@ -44,8 +44,8 @@ add-time c =
 cd-at-requires : tie.Need-cd-at-requires Inv-loop μ-loop
 cd-at-requires c κs = tt
 
-add-time-2 : tie.Need-add-time-2 Inv-loop μ-loop
-add-time-2 c =
+add-offer-2 : tie.Need-add-offer-2 Inv-loop μ-loop
+add-offer-2 c =
     let args = c .before .before .before .before .before .args in
     let loop = c .before .before .before .before .loop in
     omega (
@@ -56,6 +56,9 @@ add-time-2 c =
       memory-cap (chainOf (args .job)) (loop .d1) (args .d2),
       c .cd-at .ensures .fits,
     )
+
+offer-requires : tie.Need-offer-requires Inv-loop μ-loop
+offer-requires c κs = tt
 
 add-d1 : tie.Need-add-d1 Inv-loop μ-loop
 add-d1 c =
@@ -68,15 +71,10 @@ loop-less c = omega arith
 loop-again : tie.Need-loop-again Inv-loop μ-loop
 unfolding chainOf
 loop-again c =
-    let args = c .before .before .before .before .before .before .args in
-    let loop = c .before .before .before .before .before .loop in
-    let value : c .before .before .before .e-disk .result + c .before .before .e-mem .result + c .before .cd-at .result ≡ byDisk (chainOf (args .job)) (args .d2) (loop .d1) = rw (c .before .before .before .e-disk .ensures .value, c .before .before .e-mem .ensures .value, c .before .cd-at .ensures .value) in (
+    let loop = c .before .before .before .before .before .loop in (
       omega (arith, loop .inv .0),
       omega arith,
-      ⊎-elim
-          (λ w. rw (w .1, w .2) (sought-new _ _ _ _ _ (loop .inv .0) (loop .inv .2) _ value (omega arith)))
-          (λ w. rw (w .1, w .2) (sought-old _ _ _ _ _ (loop .inv .0) (loop .inv .2) _ value (omega arith)))
-          (c .if1 .came),
+      rw (c .offer .ensures, c .before .before .before .e-disk .ensures .value, c .before .before .e-mem .ensures .value, c .before .cd-at .ensures .value) (sought-more _ _ _ _ (loop .inv .0) (loop .inv .2)),
     )
 
 returns : tie.Need-returns Inv-loop μ-loop
@@ -84,7 +82,7 @@ returns c =
     let pre = c .before .before .pre in
     let loop = c .before .loop in
     let e : loop .d1 ≡ c .before .before .args .d2 = omega (arith, loop .inv .1) in
-    sought-last _ _ _ _ _ _ (rw e at (loop .inv .2)) (disk-min _ _ (pre .some-task)) (pre .in-time)
+    sought-last _ _ _ _ _ (rw e at (loop .inv .2)) (disk-min _ _ (pre .some-task)) (pre .in-time)
 
 pub last-disk-spec : {M : Type 1} → statement M
 last-disk-spec =
@@ -95,9 +93,10 @@ last-disk-spec =
     loop-holds
     e-disk-requires
     e-mem-requires
-    add-time
+    add-offer
     cd-at-requires
-    add-time-2
+    add-offer-2
+    offer-requires
     add-d1
     loop-less
     loop-again

@@ -1,20 +1,20 @@
--- `equations::walk::last_memory` meets its contract. The loop's invariant: the min over the positions seen so far, and the earliest that gives it. Assumes nothing.
-use Prim.Native.Nat.{ℕ, _+_, _-_, _≤_}
+-- `equations::walk::last_memory` meets its contract. The loop's invariant: the least time of the positions offered so far, and the earliest that gives it. Assumes
+-- nothing.
+use Prim.Native.Nat.{_-_, _≤_}
 use mathlib.Core.Path.{_≡_}
-use mathlib.Core.Logic.{⊎-elim}
 use native.Mathlib.Omega.{arith}
 use Rattle.costs.specs.Stretch.{chainOf}
 use Rattle.equations.specs.Equations.{byMemory}
-use Rattle.equations.proofs.Minima.{Sought, sought-first, sought-new, sought-old, sought-last, memory-min}
+use Rattle.equations.proofs.Minima.{Sought, sought-first, sought-more, sought-last, memory-min}
 use Rattle.equations.proofs.Levels.{memory-cap, verification-cap}
 use Rattle.equations.proofs.walk.last_memory.Statement.{statement}
 use Rattle.equations.proofs.walk.last_memory.Tie as tie
 
 abbrev Inv-loop : tie.InvT-loop
-Inv-loop d1 m2 job least₀ last₀ m1₀ least last m1 = (d1 ≤ m1) × (m1 ≤ m2) × Sought d1 m1 (byMemory (chainOf job) d1 m2) least last
+Inv-loop job d1 m2 best₀ m1₀ best m1 = (d1 ≤ m1) × (m1 ≤ m2) × Sought d1 m1 (byMemory (chainOf job) d1 m2) best
 
 abbrev μ-loop : tie.MeasureT-loop
-μ-loop d1 m2 job least₀ last₀ m1₀ least last m1 = m2 - m1
+μ-loop job d1 m2 best₀ m1₀ best m1 = m2 - m1
 
 loop-holds : tie.Need-loop-holds Inv-loop μ-loop
 loop-holds c = (omega arith, omega (arith, c .pre .start), sought-first _ _ _)
@@ -36,8 +36,8 @@ e-verif-requires c κs =
       time = omega (arith, c .e-mem .ensures .value, memory-cap (chainOf (args .job)) (args .d1) (loop .m1));
     }
 
-add-time : tie.Need-add-time Inv-loop μ-loop
-add-time c =
+add-offer : tie.Need-add-offer Inv-loop μ-loop
+add-offer c =
     let args = c .before .before .before .before .args in
     let loop = c .before .before .before .loop in
     omega (
@@ -51,8 +51,8 @@ add-time c =
 cm-at-requires : tie.Need-cm-at-requires Inv-loop μ-loop
 cm-at-requires c κs = tt
 
-add-time-2 : tie.Need-add-time-2 Inv-loop μ-loop
-add-time-2 c =
+add-offer-2 : tie.Need-add-offer-2 Inv-loop μ-loop
+add-offer-2 c =
     let args = c .before .before .before .before .before .args in
     let loop = c .before .before .before .before .loop in
     let e-mem = c .before .before .e-mem in
@@ -65,6 +65,9 @@ add-time-2 c =
       c .cm-at .ensures .fits,
     )
 
+offer-requires : tie.Need-offer-requires Inv-loop μ-loop
+offer-requires c κs = tt
+
 add-m1 : tie.Need-add-m1 Inv-loop μ-loop
 add-m1 c =
     let pre = c .before .before .before .before .before .before .pre in
@@ -76,15 +79,10 @@ loop-less c = omega arith
 loop-again : tie.Need-loop-again Inv-loop μ-loop
 unfolding chainOf
 loop-again c =
-    let args = c .before .before .before .before .before .before .args in
-    let loop = c .before .before .before .before .before .loop in
-    let value : c .before .before .before .e-mem .result + c .before .before .e-verif .result + c .before .cm-at .result ≡ byMemory (chainOf (args .job)) (args .d1) (args .m2) (loop .m1) = rw (c .before .before .e-verif .ensures .value, c .before .before .before .e-mem .ensures .value, c .before .cm-at .ensures .value) in (
+    let loop = c .before .before .before .before .before .loop in (
       omega (arith, loop .inv .0),
       omega arith,
-      ⊎-elim
-          (λ w. rw (w .1, w .2) (sought-new _ _ _ _ _ (loop .inv .0) (loop .inv .2) _ value (omega arith)))
-          (λ w. rw (w .1, w .2) (sought-old _ _ _ _ _ (loop .inv .0) (loop .inv .2) _ value (omega arith)))
-          (c .if1 .came),
+      rw (c .offer .ensures, c .before .before .e-verif .ensures .value, c .before .before .before .e-mem .ensures .value, c .before .cm-at .ensures .value) (sought-more _ _ _ _ (loop .inv .0) (loop .inv .2)),
     )
 
 returns : tie.Need-returns Inv-loop μ-loop
@@ -92,7 +90,7 @@ returns c =
     let pre = c .before .before .pre in
     let loop = c .before .loop in
     let e : loop .m1 ≡ c .before .before .args .m2 = omega (arith, loop .inv .1) in
-    sought-last _ _ _ _ _ _ (rw e at (loop .inv .2)) (memory-min _ _ _ (pre .start)) (pre .in-time)
+    sought-last _ _ _ _ _ (rw e at (loop .inv .2)) (memory-min _ _ _ (pre .start)) (pre .in-time)
 
 pub last-memory-spec : {M : Type 1} → statement M
 last-memory-spec =
@@ -103,9 +101,10 @@ last-memory-spec =
     loop-holds
     e-mem-requires
     e-verif-requires
-    add-time
+    add-offer
     cm-at-requires
-    add-time-2
+    add-offer-2
+    offer-requires
     add-m1
     loop-less
     loop-again

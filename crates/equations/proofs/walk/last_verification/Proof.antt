@@ -1,20 +1,20 @@
--- `equations::walk::last_verification` meets its contract. The loop's invariant: the min over the positions seen so far, and the earliest that gives it. Assumes nothing.
-use Prim.Native.Nat.{ℕ, _+_, _-_, _≤_}
+-- `equations::walk::last_verification` meets its contract. The loop's invariant: the least time of the positions offered so far, and the earliest that gives it. Assumes
+-- nothing.
+use Prim.Native.Nat.{_-_, _≤_}
 use mathlib.Core.Path.{_≡_}
-use mathlib.Core.Logic.{⊎-elim}
 use native.Mathlib.Omega.{arith}
 use Rattle.costs.specs.Stretch.{chainOf}
 use Rattle.equations.specs.Equations.{byVerification}
-use Rattle.equations.proofs.Minima.{Sought, sought-first, sought-new, sought-old, sought-last, verification-min}
+use Rattle.equations.proofs.Minima.{Sought, sought-first, sought-more, sought-last, verification-min}
 use Rattle.equations.proofs.Levels.{verification-cap}
 use Rattle.equations.proofs.walk.last_verification.Statement.{statement}
 use Rattle.equations.proofs.walk.last_verification.Tie as tie
 
 abbrev Inv-loop : tie.InvT-loop
-Inv-loop d1 m1 mem v2 job least₀ last₀ v1₀ least last v1 = (m1 ≤ v1) × (v1 ≤ v2) × Sought m1 v1 (byVerification (chainOf job) d1 m1 mem v2) least last
+Inv-loop job d1 m1 mem v2 best₀ v1₀ best v1 = (m1 ≤ v1) × (v1 ≤ v2) × Sought m1 v1 (byVerification (chainOf job) d1 m1 mem v2) best
 
 abbrev μ-loop : tie.MeasureT-loop
-μ-loop d1 m1 mem v2 job least₀ last₀ v1₀ least last v1 = v2 - v1
+μ-loop job d1 m1 mem v2 best₀ v1₀ best v1 = v2 - v1
 
 loop-holds : tie.Need-loop-holds Inv-loop μ-loop
 loop-holds c = (omega arith, omega (arith, c .pre .start), sought-first _ _ _)
@@ -33,8 +33,8 @@ e-requires c κs =
       time = pre .time;
     }
 
-add-time : tie.Need-add-time Inv-loop μ-loop
-add-time c =
+add-offer : tie.Need-add-offer Inv-loop μ-loop
+add-offer c =
     let args = c .before .before .before .before .args in
     let loop = c .before .before .before .loop in
     omega (
@@ -43,6 +43,9 @@ add-time c =
       verification-cap (chainOf (args .job)) (args .d1) (args .m1) (args .mem) (loop .v1),
       c .e .ensures .1,
     )
+
+offer-requires : tie.Need-offer-requires Inv-loop μ-loop
+offer-requires c κs = tt
 
 add-v1 : tie.Need-add-v1 Inv-loop μ-loop
 add-v1 c =
@@ -54,15 +57,10 @@ loop-less c = omega arith
 
 loop-again : tie.Need-loop-again Inv-loop μ-loop
 loop-again c =
-    let args = c .before .before .before .before .before .args in
-    let loop = c .before .before .before .before .loop in
-    let value : c .before .before .e-verif .result + c .before .e .result ≡ byVerification (chainOf (args .job)) (args .d1) (args .m1) (args .mem) (args .v2) (loop .v1) = rw (c .before .before .e-verif .ensures .value, c .before .e .ensures .0) in (
+    let loop = c .before .before .before .before .loop in (
       omega (arith, loop .inv .0),
       omega arith,
-      ⊎-elim
-          (λ w. rw (w .1, w .2) (sought-new _ _ _ _ _ (loop .inv .0) (loop .inv .2) _ value (omega arith)))
-          (λ w. rw (w .1, w .2) (sought-old _ _ _ _ _ (loop .inv .0) (loop .inv .2) _ value (omega arith)))
-          (c .if1 .came),
+      rw (c .offer .ensures, c .before .before .e-verif .ensures .value, c .before .e .ensures .0) (sought-more _ _ _ _ (loop .inv .0) (loop .inv .2)),
     )
 
 returns : tie.Need-returns Inv-loop μ-loop
@@ -70,7 +68,7 @@ returns c =
     let pre = c .before .before .pre in
     let loop = c .before .loop in
     let e : loop .v1 ≡ c .before .before .args .v2 = omega (arith, loop .inv .1) in
-    sought-last _ _ _ _ _ _ (rw e at (loop .inv .2)) (verification-min _ _ _ _ _ (pre .start)) (pre .in-time)
+    sought-last _ _ _ _ _ (rw e at (loop .inv .2)) (verification-min _ _ _ _ _ (pre .start)) (pre .in-time)
 
 pub last-verification-spec : {M : Type 1} → statement M
 last-verification-spec =
@@ -81,7 +79,8 @@ last-verification-spec =
     loop-holds
     e-verif-requires
     e-requires
-    add-time
+    add-offer
+    offer-requires
     add-v1
     loop-less
     loop-again
