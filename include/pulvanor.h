@@ -23,6 +23,7 @@ extern "C" {
 #endif
 
 #define PULVANOR_TASKS 64                     /* the most tasks of a sheet */
+#define PULVANOR_PRINTED 8                    /* the most tasks for the equations as printed */
 #define PULVANOR_SHEET 4096                   /* the most bytes of a sheet */
 #define PULVANOR_RECORD 5                     /* the bytes of a log's record */
 #define PULVANOR_TIME ((1ULL << 34) - 1)      /* the longest time that is given */
@@ -123,6 +124,12 @@ struct pulvanor_answer pulvanor_price(const uint8_t *sheet, size_t sheet_length,
    bytes of the buffer. Refusals 1 to 8, 11 (the buffer is shorter than n) and 13 (every allowed setting is too
    slow). A refusal writes no byte, and later bytes are never touched. */
 struct pulvanor_answer pulvanor_plan(const uint8_t *sheet, size_t sheet_length, uint8_t *buffer, size_t buffer_length);
+
+/* The same by the equations of section 3.1 of source document 000 as printed, which ask each other and keep
+   nothing: for a sheet of up to 8 tasks the number, the time and every byte of the buffer are those of
+   pulvanor_plan. Refusals 1 to 8, 27 (more than 8 tasks), 11 and 13, in this order. The work grows more than
+   threefold with each task, to some 10 milliseconds for 8. */
+struct pulvanor_answer pulvanor_printed(const uint8_t *sheet, size_t sheet_length, uint8_t *buffer, size_t buffer_length);
 
 /* The fresh run of the sheet under these marks. Refusals 1 to 10. */
 struct pulvanor_outcome pulvanor_start(const uint8_t *sheet, size_t sheet_length, const uint8_t *marks, size_t marks_length);

@@ -22,9 +22,12 @@ static void outcome(const char *name, struct pulvanor_outcome o) {
     printf(", recovery %llu\n", (unsigned long long)p->sums.recovery);
 }
 
-static void planned(const char *name, size_t room) {
+typedef struct pulvanor_answer planner(const uint8_t *, size_t, uint8_t *, size_t);
+
+/* The plan of a sheet into a buffer of 9s, by one of the two planners. */
+static void planned(const char *name, planner *plan, const uint8_t *bytes, size_t length, size_t room) {
     uint8_t buffer[4] = {9, 9, 9, 9};
-    answer(name, pulvanor_plan(sheet, sizeof sheet, buffer, room));
+    answer(name, plan(bytes, length, buffer, room));
     printf("  buffer %d %d %d %d\n", buffer[0], buffer[1], buffer[2], buffer[3]);
 }
 
@@ -44,6 +47,15 @@ static struct pulvanor_joined joined(const char *name, size_t second_length, uin
         left += buffer[i] == 9;
     printf("%s: number %llu, length %zu, untouched after it %zu\n", name, (unsigned long long)j.number, j.length, left);
     return j;
+}
+
+/* The sheet with nine tasks of 131072 ticks. */
+static void nine_tasks(uint8_t *bytes) {
+    size_t i;
+    for (i = 0; i < 50 + 4 * 9; i++)
+        bytes[i] = i < sizeof sheet ? sheet[i] : bytes[i - 4];
+    bytes[1] = 9;
+    bytes[16] = 1 + 4 * 9;
 }
 
 /* Whether every field of a state is 0. */
@@ -69,7 +81,7 @@ int main(void) {
     struct pulvanor_outcome first = pulvanor_follow(start.run, all, 15);
     struct pulvanor_run moved;
     struct pulvanor_joined both;
-    uint8_t twice[70], four[4];
+    uint8_t twice[70], four[4], nine[50 + 4 * 9];
     size_t t;
     int past = 0;
 
@@ -87,8 +99,14 @@ int main(void) {
     answer("price of 23", pulvanor_price(sheet, sizeof sheet, marks, sizeof marks));
     answer("price of 2", pulvanor_price(sheet, sizeof sheet, marks, 1));
     answer("price of a cut sheet", pulvanor_price(sheet, 57, marks, sizeof marks));
-    planned("plan", 4);
-    planned("plan, short buffer", 1);
+    planned("plan", pulvanor_plan, sheet, sizeof sheet, 4);
+    planned("plan, short buffer", pulvanor_plan, sheet, sizeof sheet, 1);
+    planned("printed", pulvanor_printed, sheet, sizeof sheet, 4);
+    planned("printed, short buffer", pulvanor_printed, sheet, sizeof sheet, 1);
+    planned("printed, a cut sheet", pulvanor_printed, sheet, 57, 4);
+    nine_tasks(nine);
+    planned("printed, 9 tasks and a short buffer", pulvanor_printed, nine, sizeof nine, 4);
+    planned("plan of them", pulvanor_plan, nine, sizeof nine, 4);
     outcome("start", start);
     for (t = 2; t < PULVANOR_TASKS; t++)
         past += start.run.job.weights[t] != 0 || start.run.marks[t] != 0;

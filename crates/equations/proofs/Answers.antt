@@ -1,11 +1,10 @@
 -- The first refusal of the equations as printed: that of the sheet, or 27, or none. Assumes nothing.
-use Prim.Native.Nat.{_≤_, _<_}
+use Prim.Native.Nat.{ℕ, _≤_, _<_}
 use mathlib.Core.Path.{_≡_, refl, sym, _∙_}
 use mathlib.Core.List.{List, []}
-use Prim.Native.Nat.{ℕ}
 use borrow.Author.Tests.{lt-ltb, le-ltb}
 use Rattle.refusals.specs.Numbers
-use Rattle.refusals.specs.Refusals.{first, has, distinct, Numbered}
+use Rattle.refusals.specs.Refusals.{has, distinct, Numbered}
 use Rattle.refusals.proofs.Refusals.{first-stands, first-goes-on, refused-here, refused-later, refused-none}
 use Rattle.sheet.specs.Reading.{jobOf, sheetConditions, sheetRefusal}
 use Rattle.sheet.proofs.Readings.{sheet-numbered}

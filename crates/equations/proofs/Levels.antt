@@ -5,7 +5,6 @@ use mathlib.Core.Logic.{_≢_}
 use mathlib.Core.Bool.{true, false, not}
 use native.Mathlib.Omega.{arith}
 use borrow.Author.Tests.{eq-eqb, ne-eqb}
-use lib.Dec.{eqb}
 use Rattle.units.specs.Limits.{none}
 use Rattle.chain.specs.Chain.{Chain}
 use Rattle.chain.specs.declared.Factors.{Factors}

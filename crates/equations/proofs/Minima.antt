@@ -1,19 +1,19 @@
 -- The least times that the plan's theorem knows are the min of the printed equations, and its positions before are the earliest at which that min is reached.
 -- Assumes nothing.
-use Prim.Native.Nat.{ℕ, zero, suc, min, _+_, _≤_, _<_}
-use mathlib.Core.Path.{_≡_, refl, sym, _∙_}
-use mathlib.Core.Logic.{_≢_, _⊎_, inl, inr}
-use mathlib.Core.Bool.{Bool, true, false, cond}
+use Prim.Native.Nat.{ℕ, min, _+_, _≤_, _<_}
+use mathlib.Core.Path.{_≡_, refl, _∙_}
+use mathlib.Core.Logic.{_⊎_, inl, inr}
+use mathlib.Core.Bool.{Bool, true, false}
 use native.Mathlib.Decide.{decLe, decLt, ℕ-discrete}
 use native.Mathlib.Omega.{arith}
 use borrow.Author.Tests.{lt-ltb, le-ltb}
 use Rattle.units.specs.Limits.{none}
 use Rattle.chain.specs.Chain.{Chain}
 use Rattle.chain.specs.Working.Search.{Cost, reach, way, back, toVerification, leastQ, toMemory, leastM, toDisk, leastD, backD, backM, backQ, bestQ}
-use Rattle.chain.proofs.Search.{IsBack, least-le, reach-is, reach-cap, way-is, back-is, back-from, back-first, leastQ-start, leastM-start, leastD-start}
+use Rattle.chain.proofs.Search.{IsBack, least-le, reach-is, reach-cap, way-is, back-is, back-from, back-first}
 use Rattle.equations.specs.declared.walk.Best.{Best}
 use Rattle.equations.specs.Working.Places.{lesser}
-use Rattle.equations.specs.Equations.{Attained, IsMin, IsEarliest, byDisk, byMemory, byVerification, DiskEquation, MemoryEquation, VerificationEquation}
+use Rattle.equations.specs.Equations.{Attained, IsMin, IsEarliest, byDisk, byMemory, byVerification}
 
 -- a min over nothing, over one position more, and no other
 module _ (a : ℕ) (f : ℕ → ℕ) where

@@ -7,7 +7,7 @@ use native.Mathlib.Omega.{arith}
 use Rattle.chain.specs.Chain.{Chain}
 use Rattle.units.specs.Limits.{none}
 use Rattle.chain.proofs.Search.{leastQ-start, leastM-start, leastD-start}
-use Rattle.equations.specs.Equations.{IsMin, Attained, Equations, E-disk, E-mem, E-verif, E, SameTimes}
+use Rattle.equations.specs.Equations.{IsMin, Equations, E-disk, E-mem, E-verif, E, SameTimes}
 use Rattle.equations.proofs.Minima.{min-once, disk-min, memory-min, verification-min}
 
 -- they hold

@@ -1,8 +1,6 @@
 -- `equations::print_job` meets its contract. E_disk(n) below the limit is the time of a setting, whose marks are copied; at the limit every setting is too slow.
 -- Assumes nothing.
-use native.Mathlib.Omega.{arith}
-use native.Mathlib.Nat.{le-trans, le-of-eq, lt-of-le-of-lt}
-use mathlib.Core.Path.{sym}
+use native.Mathlib.Nat.{le-trans, le-of-eq}
 use Rattle.costs.proofs.Stretches.{S-rises}
 use Rattle.planning.proofs.Promises.{slow-answer, plan-answer}
 use borrow.Author.Needs.{needs}

@@ -1,5 +1,5 @@
 -- `equations::walk::at_disk` meets its contract: the earliest positions are the plan's. Assumes nothing.
-use Prim.Native.Nat.{_≤_, _<_}
+use Prim.Native.Nat.{_<_}
 use native.Mathlib.Omega.{arith}
 use Rattle.units.specs.Limits.{none}
 use Rattle.chain.specs.Working.Search.{leastM}
