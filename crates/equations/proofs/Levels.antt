@@ -24,24 +24,24 @@ use Rattle.equations.proofs.Minima.{min-once, disk-min, memory-min, ver
 
 -- each level at its start, and where the code found its min
 module _ (c : Chain) where
-  pub disk-start : DiskEquation c 0 0
+  pub disk-start : DiskEquation c none 0 0
   disk-start = record { value = sym (leastD-start c none); start = λ _. refl; least = λ h. absurd (omega arith) }
 
-  pub disk-found : (d2 t : ℕ) → 0 < d2 → IsMin 0 d2 (byDisk c d2) t → DiskEquation c d2 t
-  disk-found d2 t h i = record { value = min-once 0 _ d2 t _ i (disk-min c d2 h); start = λ e. absurd (omega arith); least = λ _. i }
+  pub disk-found : (d2 t : ℕ) → 0 < d2 → IsMin none 0 d2 (byDisk c none d2) t → DiskEquation c none d2 t
+  disk-found d2 t h i = record { value = min-once none 0 _ d2 t _ i (disk-min c none d2 h); start = λ e. absurd (omega arith); least = λ _. i }
 
-  pub memory-start : (d1 : ℕ) → MemoryEquation c d1 d1 0
+  pub memory-start : (d1 : ℕ) → MemoryEquation c none d1 d1 0
   memory-start d1 = record { value = sym (leastM-start c none d1); start = λ _. refl; least = λ h. absurd (omega arith) }
 
-  pub memory-found : (d1 m2 t : ℕ) → d1 < m2 → IsMin d1 m2 (byMemory c d1 m2) t → MemoryEquation c d1 m2 t
-  memory-found d1 m2 t h i = record { value = min-once d1 _ m2 t _ i (memory-min c d1 m2 h); start = λ e. absurd (omega arith); least = λ _. i }
+  pub memory-found : (d1 m2 t : ℕ) → d1 < m2 → IsMin none d1 m2 (byMemory c none d1 m2) t → MemoryEquation c none d1 m2 t
+  memory-found d1 m2 t h i = record { value = min-once none d1 _ m2 t _ i (memory-min c none d1 m2 h); start = λ e. absurd (omega arith); least = λ _. i }
 
-  pub verification-start : (d1 m1 mem : ℕ) → VerificationEquation c d1 m1 mem m1 0
+  pub verification-start : (d1 m1 mem : ℕ) → VerificationEquation c none d1 m1 mem m1 0
   verification-start d1 m1 mem = record { value = sym (leastQ-start c none d1 m1 mem); start = λ _. refl; least = λ h. absurd (omega arith) }
 
-  pub verification-found : (d1 m1 mem v2 t : ℕ) → m1 < v2 → IsMin m1 v2 (byVerification c d1 m1 mem v2) t → VerificationEquation c d1 m1 mem v2 t
+  pub verification-found : (d1 m1 mem v2 t : ℕ) → m1 < v2 → IsMin none m1 v2 (byVerification c none d1 m1 mem v2) t → VerificationEquation c none d1 m1 mem v2 t
   verification-found d1 m1 mem v2 t h i =
-      record { value = min-once m1 _ v2 t _ i (verification-min c d1 m1 mem v2 h); start = λ e. absurd (omega arith); least = λ _. i }
+      record { value = min-once none m1 _ v2 t _ i (verification-min c none d1 m1 mem v2 h); start = λ e. absurd (omega arith); least = λ _. i }
 
   -- none is the most
   pub disk-cap : (d2 : ℕ) → leastD c none d2 ≤ none
@@ -58,7 +58,7 @@ module _ (c : Chain) where
 
 -- E by whether the stretch is allowed, which its growths tell
 module _ (job : Job) (sound : Sound job) (d1 m1 mem v1 v2 : ℕ) (h : v2 ≤ job .tasks) (f : Factors) (is : f ≡ factorsAt job v1 v2) where
-  pub stretch-none : f .both ≡ 0 → none ≡ E (chainOf job) d1 m1 mem v1 v2
+  pub stretch-none : f .both ≡ 0 → none ≡ E (chainOf job) none d1 m1 mem v1 v2
   unfolding chainOf
   stretch-none z = rw no
     where
@@ -66,7 +66,7 @@ module _ (job : Job) (sound : Sound job) (d1 m1 mem v1 v2 : ℕ) (h : v2 ≤ job
       no = sym (both-decides job sound v1 v2 h) ∙ ap not (eq-eqb _ 0 (sym (ap (λ (f : Factors). f .both) is) ∙ z))
 
   pub stretch-some : f .both ≢ 0 → (r : Recoveries) → r ≡ record { disk = rdAt job d1 + mem; memory = rmAt job m1 }
-      → stretchOf f r (leastQ (chainOf job) none d1 m1 mem v1) ≡ E (chainOf job) d1 m1 mem v1 v2
+      → stretchOf f r (leastQ (chainOf job) none d1 m1 mem v1) ≡ E (chainOf job) none d1 m1 mem v1 v2
   unfolding chainOf
   stretch-some n r e = rw (is, e, yes) (sym (S-factors job v1 v2 m1 d1 _ mem))
     where

@@ -5,29 +5,28 @@ use mathlib.Core.Path.{_≡_, refl, sym, _∙_}
 use native.Mathlib.Decide.{ℕ-discrete}
 use native.Mathlib.Omega.{arith}
 use Rattle.chain.specs.Chain.{Chain}
-use Rattle.units.specs.Limits.{none}
 use Rattle.chain.proofs.Search.{leastQ-start, leastM-start, leastD-start}
 use Rattle.equations.specs.Equations.{IsMin, Equations, E-disk, E-mem, E-verif, E, SameTimes}
 use Rattle.equations.proofs.Minima.{min-once, disk-min, memory-min, verification-min}
 
 -- they hold
-pub equations-hold : (c : Chain)
-    → Equations c (E-disk c) (E-mem c) (λ d1 m1 v2. E-verif c d1 m1 (E-mem c d1 m1) v2) (λ d1 m1 v1 v2. E c d1 m1 (E-mem c d1 m1) v1 v2)
-equations-hold c =
+pub equations-hold : (c : Chain) (N : ℕ)
+    → Equations c N (E-disk c N) (E-mem c N) (λ d1 m1 v2. E-verif c N d1 m1 (E-mem c N d1 m1) v2) (λ d1 m1 v1 v2. E c N d1 m1 (E-mem c N d1 m1) v1 v2)
+equations-hold c N =
     record {
-      disk-start = leastD-start c none;
-      disk-least = disk-min c;
-      memory-start = leastM-start c none;
-      memory-least = memory-min c;
-      verification-start = λ d1 m1 h. leastQ-start c none d1 m1 (E-mem c d1 m1);
-      verification-least = λ d1 m1 v2 h l. verification-min c d1 m1 (E-mem c d1 m1) v2 l;
+      disk-start = leastD-start c N;
+      disk-least = disk-min c N;
+      memory-start = leastM-start c N;
+      memory-least = memory-min c N;
+      verification-start = λ d1 m1 h. leastQ-start c N d1 m1 (E-mem c N d1 m1);
+      verification-least = λ d1 m1 v2 h l. verification-min c N d1 m1 (E-mem c N d1 m1) v2 l;
       stretch = λ d1 m1 v1 v2 h k l. refl;
     }
 
 -- mins of the same times are the same
-min-same : (a b : ℕ) (f g : ℕ → ℕ) (t s : ℕ) → ((u : ℕ) → a ≤ u → u < b → f u ≡ g u) → IsMin a b f t → IsMin a b g s → t ≡ s
-min-same a b f g t s same i j =
-    min-once a g b t s
+min-same : (N a b : ℕ) (f g : ℕ → ℕ) (t s : ℕ) → ((u : ℕ) → a ≤ u → u < b → f u ≡ g u) → IsMin N a b f t → IsMin N a b g s → t ≡ s
+min-same N a b f g t s same i j =
+    min-once N a g b t s
     (record {
       cap = i .cap;
       lower = λ u p q. rw (← (same u p q)) (i .lower u p q);
@@ -54,50 +53,50 @@ by-end P step b = below (suc b) b (omega arith)
     below zero u h = absurd (omega arith)
     below (suc k) u h = step u (λ w l. below k w (omega arith))
 
-module _ (c : Chain) (F-disk : (d2 : ℕ) → ℕ) (F-mem : (d1 m2 : ℕ) → ℕ) (F-verif : (d1 m1 v2 : ℕ) → ℕ) (F : (d1 m1 v1 v2 : ℕ) → ℕ)
-    (keeps : Equations c F-disk F-mem F-verif F) where
-  module _ (d1 m1 : ℕ) (h : d1 ≤ m1) (mem : F-mem d1 m1 ≡ E-mem c d1 m1) where
-    stretch-same : (v1 v2 : ℕ) → m1 ≤ v1 → v1 < v2 → F-verif d1 m1 v1 ≡ E-verif c d1 m1 (E-mem c d1 m1) v1 → F d1 m1 v1 v2 ≡ E c d1 m1 (E-mem c d1 m1) v1 v2
+module _ (c : Chain) (N : ℕ) (F-disk : (d2 : ℕ) → ℕ) (F-mem : (d1 m2 : ℕ) → ℕ) (F-verif : (d1 m1 v2 : ℕ) → ℕ) (F : (d1 m1 v1 v2 : ℕ) → ℕ)
+    (keeps : Equations c N F-disk F-mem F-verif F) where
+  module _ (d1 m1 : ℕ) (h : d1 ≤ m1) (mem : F-mem d1 m1 ≡ E-mem c N d1 m1) where
+    stretch-same : (v1 v2 : ℕ) → m1 ≤ v1 → v1 < v2 → F-verif d1 m1 v1 ≡ E-verif c N d1 m1 (E-mem c N d1 m1) v1 → F d1 m1 v1 v2 ≡ E c N d1 m1 (E-mem c N d1 m1) v1 v2
     stretch-same v1 v2 p q e = keeps .stretch d1 m1 v1 v2 h p q ∙ rw (e, mem)
 
-    verification-same : (v2 : ℕ) → m1 ≤ v2 → F-verif d1 m1 v2 ≡ E-verif c d1 m1 (E-mem c d1 m1) v2
+    verification-same : (v2 : ℕ) → m1 ≤ v2 → F-verif d1 m1 v2 ≡ E-verif c N d1 m1 (E-mem c N d1 m1) v2
     verification-same =
-        by-end (λ v2. m1 ≤ v2 → F-verif d1 m1 v2 ≡ E-verif c d1 m1 (E-mem c d1 m1) v2)
+        by-end (λ v2. m1 ≤ v2 → F-verif d1 m1 v2 ≡ E-verif c N d1 m1 (E-mem c N d1 m1) v2)
         (λ v2 earlier p.
-        by-start (λ v2. F-verif d1 m1 v2 ≡ E-verif c d1 m1 (E-mem c d1 m1) v2) m1 v2 p
-        (λ e. rw e (keeps .verification-start d1 m1 h ∙ sym (leastQ-start c none d1 m1 (E-mem c d1 m1))))
+        by-start (λ v2. F-verif d1 m1 v2 ≡ E-verif c N d1 m1 (E-mem c N d1 m1) v2) m1 v2 p
+        (λ e. rw e (keeps .verification-start d1 m1 h ∙ sym (leastQ-start c N d1 m1 (E-mem c N d1 m1))))
         (λ l.
-        min-same m1 v2 _ _ _ _
+        min-same N m1 v2 _ _ _ _
         (λ v1 q k. rw (earlier v1 k q, stretch-same v1 v2 q k (earlier v1 k q)))
         (keeps .verification-least d1 m1 v2 h l)
-        (verification-min c d1 m1 (E-mem c d1 m1) v2 l)))
+        (verification-min c N d1 m1 (E-mem c N d1 m1) v2 l)))
 
-  memory-same : (d1 m2 : ℕ) → d1 ≤ m2 → F-mem d1 m2 ≡ E-mem c d1 m2
+  memory-same : (d1 m2 : ℕ) → d1 ≤ m2 → F-mem d1 m2 ≡ E-mem c N d1 m2
   memory-same d1 =
-      by-end (λ m2. d1 ≤ m2 → F-mem d1 m2 ≡ E-mem c d1 m2)
+      by-end (λ m2. d1 ≤ m2 → F-mem d1 m2 ≡ E-mem c N d1 m2)
       (λ m2 earlier p.
-      by-start (λ m2. F-mem d1 m2 ≡ E-mem c d1 m2) d1 m2 p
-      (λ e. rw e (keeps .memory-start d1 ∙ sym (leastM-start c none d1)))
+      by-start (λ m2. F-mem d1 m2 ≡ E-mem c N d1 m2) d1 m2 p
+      (λ e. rw e (keeps .memory-start d1 ∙ sym (leastM-start c N d1)))
       (λ l.
-      min-same d1 m2 _ _ _ _
+      min-same N d1 m2 _ _ _ _
       (λ m1 q k. rw (earlier m1 k q, verification-same d1 m1 q (earlier m1 k q) m2 (omega arith)))
       (keeps .memory-least d1 m2 l)
-      (memory-min c d1 m2 l)))
+      (memory-min c N d1 m2 l)))
 
-  disk-same : (d2 : ℕ) → F-disk d2 ≡ E-disk c d2
+  disk-same : (d2 : ℕ) → F-disk d2 ≡ E-disk c N d2
   disk-same =
-      by-end (λ d2. F-disk d2 ≡ E-disk c d2)
+      by-end (λ d2. F-disk d2 ≡ E-disk c N d2)
       (λ d2 earlier.
-      by-start (λ d2. F-disk d2 ≡ E-disk c d2) 0 d2 (omega arith)
-      (λ e. rw e (keeps .disk-start ∙ sym (leastD-start c none)))
+      by-start (λ d2. F-disk d2 ≡ E-disk c N d2) 0 d2 (omega arith)
+      (λ e. rw e (keeps .disk-start ∙ sym (leastD-start c N)))
       (λ l.
-      min-same 0 d2 _ _ _ _
+      min-same N 0 d2 _ _ _ _
       (λ d1 q k. rw (earlier d1 k, memory-same d1 d2 (omega arith)))
       (keeps .disk-least d2 l)
-      (disk-min c d2 l)))
+      (disk-min c N d2 l)))
 
   -- and nothing else keeps them
-  pub equations-determine : SameTimes c F-disk F-mem F-verif F
+  pub equations-determine : SameTimes c N F-disk F-mem F-verif F
   equations-determine =
       record {
         disk = disk-same;

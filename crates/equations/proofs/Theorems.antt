@@ -114,9 +114,9 @@ module _ (s before after : List ℕ) (r : Answer) (p : Prints s before after r) 
       go (no h) = absurd (omega (arith, p .short passed (omega arith) .numbered))
 
   -- 'The total expected time needed to execute all the tasks T_1 to T_n is given by E_disk(n)', and that is its time
-  pub printed-time : r .time ≡ E-disk chain n
+  pub printed-time : r .time ≡ E-disk chain none n
   printed-time =
-      plan-is-determined chain n _ _ (r .time) (E-disk chain n) (planned .plan)
+      plan-is-determined chain n _ _ (r .time) (E-disk chain none n) (planned .plan)
       (plan-is-least chain (S-rises (jobOf s)) none n some
       (omega (arith, leastD-lower chain (S-rises (jobOf s)) none n _ (planned .plan .allowed) some, planned .plan .time, planned .in-time))) .0
     where

@@ -7,6 +7,7 @@
 // The walk and the plan call these, for a job that has passed checks 3, 7 and 8.
 ghost use mathlib.Core.Path.{_≡_};
 ghost use Prim.Native.Nat.{min, _≤_};
+ghost use Rattle.units.specs.Limits.{none};
 ghost use Rattle.chain.specs.Working.Factors.{stretchCap};
 ghost use Rattle.costs.specs.Stretch.{chainOf};
 ghost use Rattle.costs.specs.Working.Factors.{factorsAt};
@@ -38,7 +39,7 @@ fn min(a: u64, b: u64) -> u64
 // E_disk(d2) = min { E_disk(d1) + E_mem(d1, d2) + C_D }, over 0 <= d1 < d2.
 pub fn e_disk(job: Job, d2: usize) -> u64
     requires { ⌜ ReadyForDisk job d2 ⌝ }
-    ensures { λ r. ⌜ DiskEquation (chainOf job) d2 r ⌝ }
+    ensures { λ r. ⌜ DiskEquation (chainOf job) none d2 r ⌝ }
 {
     if d2 == 0 {
         return 0;
@@ -55,7 +56,7 @@ pub fn e_disk(job: Job, d2: usize) -> u64
 // E_mem(d1, m2) = min { E_mem(d1, m1) + E_verif(d1, m1, m2) + C_M }, over d1 <= m1 < m2.
 pub fn e_mem(job: Job, d1: usize, m2: usize) -> u64
     requires { ⌜ ReadyForMemory job d1 m2 ⌝ }
-    ensures { λ r. ⌜ MemoryEquation (chainOf job) d1 m2 r ⌝ }
+    ensures { λ r. ⌜ MemoryEquation (chainOf job) none d1 m2 r ⌝ }
 {
     if m2 == d1 {
         return 0;
@@ -73,7 +74,7 @@ pub fn e_mem(job: Job, d1: usize, m2: usize) -> u64
 // (1)  E_verif(d1, m1, v2) = min { E_verif(d1, m1, v1) + E(d1, m1, v1, v2) }, over m1 <= v1 < v2.
 pub fn e_verif(job: Job, d1: usize, m1: usize, mem: u64, v2: usize) -> u64
     requires { ⌜ ReadyForVerification job m1 mem v2 ⌝ }
-    ensures { λ r. ⌜ VerificationEquation (chainOf job) d1 m1 mem v2 r ⌝ }
+    ensures { λ r. ⌜ VerificationEquation (chainOf job) none d1 m1 mem v2 r ⌝ }
 {
     if v2 == m1 {
         return 0;
@@ -119,7 +120,7 @@ fn recoveries(job: Job, d1: usize, m1: usize, mem: u64) -> Recoveries
 // its parts rounded up one by one. What has to be done again is asked of E_verif. The growth of both errors is 0 where the stretch is not allowed.
 pub fn e(job: Job, d1: usize, m1: usize, mem: u64, v1: usize, v2: usize) -> u64
     requires { ⌜ ReadyForStretch job m1 mem v1 v2 ⌝ }
-    ensures { λ r. ⌜ (r ≡ E (chainOf job) d1 m1 mem v1 v2) × (r ≤ stretchCap) ⌝ }
+    ensures { λ r. ⌜ (r ≡ E (chainOf job) none d1 m1 mem v1 v2) × (r ≤ stretchCap) ⌝ }
 {
     let f = growths(job, v1, v2);
     if f.both == 0 {

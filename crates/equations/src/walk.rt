@@ -46,7 +46,7 @@ fn offer(best: Best, at: usize, time: u64) -> Best
 // The earliest d1 that gives E_disk(d2).
 fn last_disk(job: Job, d2: usize) -> usize
     requires { ⌜ ReadyForLastDisk job d2 ⌝ }
-    ensures { λ r. ⌜ IsEarliest 0 d2 (byDisk (chainOf job) d2) (E-disk (chainOf job) d2) r ⌝ }
+    ensures { λ r. ⌜ IsEarliest 0 d2 (byDisk (chainOf job) none d2) (E-disk (chainOf job) none d2) r ⌝ }
 {
     let mut best = Best { time: NONE, at: 0 };
     let mut d1: usize = 0;
@@ -64,7 +64,7 @@ fn last_disk(job: Job, d2: usize) -> usize
 // The earliest m1 that gives E_mem(d1, m2).
 fn last_memory(job: Job, d1: usize, m2: usize) -> usize
     requires { ⌜ ReadyForLastMemory job d1 m2 ⌝ }
-    ensures { λ r. ⌜ IsEarliest d1 m2 (byMemory (chainOf job) d1 m2) (E-mem (chainOf job) d1 m2) r ⌝ }
+    ensures { λ r. ⌜ IsEarliest d1 m2 (byMemory (chainOf job) none d1 m2) (E-mem (chainOf job) none d1 m2) r ⌝ }
 {
     let mut best = Best { time: NONE, at: d1 };
     let mut m1 = d1;
@@ -83,7 +83,7 @@ fn last_memory(job: Job, d1: usize, m2: usize) -> usize
 // The earliest v1 that gives E_verif(d1, m1, v2), where `mem` is E_mem(d1, m1).
 fn last_verification(job: Job, d1: usize, m1: usize, mem: u64, v2: usize) -> usize
     requires { ⌜ ReadyForLastVerification job d1 m1 mem v2 ⌝ }
-    ensures { λ r. ⌜ IsEarliest m1 v2 (byVerification (chainOf job) d1 m1 mem v2) (E-verif (chainOf job) d1 m1 mem v2) r ⌝ }
+    ensures { λ r. ⌜ IsEarliest m1 v2 (byVerification (chainOf job) none d1 m1 mem v2) (E-verif (chainOf job) none d1 m1 mem v2) r ⌝ }
 {
     let mut best = Best { time: NONE, at: m1 };
     let mut v1 = m1;

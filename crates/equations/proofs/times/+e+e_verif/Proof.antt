@@ -4,6 +4,7 @@ use Prim.Native.Nat.{ℕ, _+_, _-_, _*_, _≤_, _<_}
 use mathlib.Core.Path.{_≡_, _∙_, ap}
 use native.Mathlib.Omega.{arith}
 use Rattle.chain.specs.declared.Factors.{Factors}
+use Rattle.units.specs.Limits.{none}
 use Rattle.costs.specs.Stretch.{chainOf}
 use Rattle.costs.proofs.Stretches.{both-factored}
 use Rattle.equations.specs.Equations.{IsMin, byVerification}
@@ -150,7 +151,7 @@ e-returns-2 t c =
     )
 
 abbrev e-verif-Inv-loop : e-verif-lts.InvT-loop
-e-verif-Inv-loop job d1 m1 mem v2 least₀ v1₀ least v1 = (m1 ≤ v1) × (v1 ≤ v2) × IsMin m1 v1 (byVerification (chainOf job) d1 m1 mem v2) least
+e-verif-Inv-loop job d1 m1 mem v2 least₀ v1₀ least v1 = (m1 ≤ v1) × (v1 ≤ v2) × IsMin none m1 v1 (byVerification (chainOf job) none d1 m1 mem v2) least
 
 abbrev e-verif-μ-loop : e-verif-lts.MeasureT-loop
 e-verif-μ-loop job d1 m1 mem v2 least₀ v1₀ least v1 = v2 - v1
@@ -173,7 +174,7 @@ e-verif-loop-holds : (t : ℕ) → e-verif-lts.Need-loop-holds (
   min-reads.Asked,
   min-reads.Learnt,
 ) (e-verif-at t) e-verif.Post e-verif-Inv-loop e-verif-μ-loop
-e-verif-loop-holds t c = (omega arith, omega (arith, c .before .pre .1 .start), min-first _ _)
+e-verif-loop-holds t c = (omega arith, omega (arith, c .before .pre .1 .start), min-first _ _ _)
 
 e-verif-e-verif-requires : (t : ℕ) → e-verif-lts.Need-e-verif-requires (
   e-verif-below t,
@@ -262,7 +263,7 @@ e-verif-loop-again t c =
     let loop = c .before .before .before .before .loop in (
       omega (arith, loop .inv .0),
       omega arith,
-      rw (c .min .ensures, c .before .e .ensures .0, c .before .before .e-verif .ensures .value) (min-more _ _ _ _ (loop .inv .0) (loop .inv .2)),
+      rw (c .min .ensures, c .before .e .ensures .0, c .before .before .e-verif .ensures .value) (min-more _ _ _ _ _ (loop .inv .0) (loop .inv .2)),
     )
 
 e-verif-returns-2 : (t : ℕ) → e-verif-lts.Need-returns-2 (

@@ -3,6 +3,7 @@
 use Prim.Native.Nat.{ℕ, _+_, _-_, _≤_, _<_}
 use mathlib.Core.Path.{_≡_}
 use native.Mathlib.Omega.{arith}
+use Rattle.units.specs.Limits.{none}
 use Rattle.costs.specs.Stretch.{chainOf}
 use Rattle.equations.specs.Equations.{IsMin, byDisk}
 use Rattle.equations.proofs.Minima.{min-first, min-more}
@@ -28,7 +29,7 @@ abbrev e-disk-below : ℕ → In 0 e-disk-kinds.ps
 e-disk-below t = and 0 e-disk-kinds.ps (falls 0 e-disk-kinds.ps _<_ μ-e-disk t) e-disk.Pre
 
 abbrev e-disk-Inv-loop : e-disk-lts.InvT-loop
-e-disk-Inv-loop job d2 least₀ d1₀ least d1 = (d1 ≤ d2) × IsMin 0 d1 (byDisk (chainOf job) d2) least
+e-disk-Inv-loop job d2 least₀ d1₀ least d1 = (d1 ≤ d2) × IsMin none 0 d1 (byDisk (chainOf job) none d2) least
 
 abbrev e-disk-μ-loop : e-disk-lts.MeasureT-loop
 e-disk-μ-loop job d2 least₀ d1₀ least d1 = d2 - d1
@@ -55,7 +56,7 @@ e-disk-loop-holds : (t : ℕ) → e-disk-lts.Need-loop-holds (
   min-reads.Asked,
   min-reads.Learnt,
 ) (e-disk-at t) e-disk.Post e-disk-Inv-loop e-disk-μ-loop
-e-disk-loop-holds t c = (omega arith, min-first _ _)
+e-disk-loop-holds t c = (omega arith, min-first _ _ _)
 
 e-disk-e-disk-requires : (t : ℕ) → e-disk-lts.Need-e-disk-requires (
   e-disk-below t,
@@ -193,7 +194,7 @@ e-disk-loop-again t c =
     let loop = c .before .before .before .before .before .loop in (
       omega arith,
       rw (c .min .ensures, c .before .before .before .e-disk .ensures .value, c .before .before .e-mem .ensures .value, c .before .cd-at .ensures .value)
-          (min-more _ _ _ _ (omega arith) (loop .inv .1)),
+          (min-more _ _ _ _ _ (omega arith) (loop .inv .1)),
     )
 
 e-disk-returns-2 : (t : ℕ) → e-disk-lts.Need-returns-2 (

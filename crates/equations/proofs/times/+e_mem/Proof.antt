@@ -3,6 +3,7 @@
 use Prim.Native.Nat.{ℕ, _+_, _-_, _≤_, _<_}
 use mathlib.Core.Path.{_≡_}
 use native.Mathlib.Omega.{arith}
+use Rattle.units.specs.Limits.{none}
 use Rattle.costs.specs.Stretch.{chainOf}
 use Rattle.equations.specs.Equations.{IsMin, byMemory}
 use Rattle.equations.proofs.Minima.{min-first, min-more}
@@ -28,7 +29,7 @@ abbrev e-mem-below : ℕ → In 0 e-mem-kinds.ps
 e-mem-below t = and 0 e-mem-kinds.ps (falls 0 e-mem-kinds.ps _<_ μ-e-mem t) e-mem.Pre
 
 abbrev e-mem-Inv-loop : e-mem-lts.InvT-loop
-e-mem-Inv-loop job d1 m2 least₀ m1₀ least m1 = (d1 ≤ m1) × (m1 ≤ m2) × IsMin d1 m1 (byMemory (chainOf job) d1 m2) least
+e-mem-Inv-loop job d1 m2 least₀ m1₀ least m1 = (d1 ≤ m1) × (m1 ≤ m2) × IsMin none d1 m1 (byMemory (chainOf job) none d1 m2) least
 
 abbrev e-mem-μ-loop : e-mem-lts.MeasureT-loop
 e-mem-μ-loop job d1 m2 least₀ m1₀ least m1 = m2 - m1
@@ -55,7 +56,7 @@ e-mem-loop-holds : (t : ℕ) → e-mem-lts.Need-loop-holds (
   min-reads.Asked,
   min-reads.Learnt,
 ) (e-mem-at t) e-mem.Post e-mem-Inv-loop e-mem-μ-loop
-e-mem-loop-holds t c = (omega arith, omega (arith, c .before .pre .1 .start), min-first _ _)
+e-mem-loop-holds t c = (omega arith, omega (arith, c .before .pre .1 .start), min-first _ _ _)
 
 e-mem-e-mem-requires : (t : ℕ) → e-mem-lts.Need-e-mem-requires (
   e-mem-below t,
@@ -204,7 +205,7 @@ e-mem-loop-again t c =
       omega (arith, loop .inv .0),
       omega arith,
       rw (c .min .ensures, c .before .before .e-verif .ensures .value, e-mem .ensures .value, c .before .cm-at .ensures .value)
-          (min-more _ _ _ _ (loop .inv .0) (loop .inv .2)),
+          (min-more _ _ _ _ _ (loop .inv .0) (loop .inv .2)),
     )
 
 e-mem-returns-2 : (t : ℕ) → e-mem-lts.Need-returns-2 (

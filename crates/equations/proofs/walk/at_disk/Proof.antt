@@ -16,7 +16,7 @@ last-memory-requires : tie.Need-last-memory-requires
 last-memory-requires c κs =
     let args = c .before .args in
     let pre = c .before .pre in
-    let e = disk-earliest _ _ _ (pre .some-task) (pre .in-time) (c .last-disk .ensures) in
+    let e = disk-earliest _ _ _ _ (pre .some-task) (pre .in-time) (c .last-disk .ensures) in
     record {
       sound = pre .sound;
       start = c .last-disk .ensures .before;
@@ -29,11 +29,11 @@ returns c =
     let args = c .before .before .args in
     let pre = c .before .before .pre in
     let last-disk = c .before .last-disk in
-    let e = disk-earliest _ _ _ (pre .some-task) (pre .in-time) (last-disk .ensures) in
+    let e = disk-earliest _ _ _ _ (pre .some-task) (pre .in-time) (last-disk .ensures) in
     let in-time : leastM (chainOf (args .job)) none (last-disk .result) (args .v) < none =
     rw e (omega (arith, backD-arrives (chainOf (args .job)) none (args .v) (pre .some-task) (pre .in-time), pre .in-time))
     in
-    rw (memory-earliest _ _ _ _ (last-disk .ensures .before) in-time (c .last-memory .ensures), e)
+    rw (memory-earliest _ _ _ _ _ (last-disk .ensures .before) in-time (c .last-memory .ensures), e)
 
 pub at-disk-spec : {M : Type 1} → statement M
 at-disk-spec = tie.close (tie.spec last-disk-requires last-memory-requires returns)

@@ -3,6 +3,7 @@
 use Prim.Native.Nat.{_-_, _≤_}
 use mathlib.Core.Path.{_≡_}
 use native.Mathlib.Omega.{arith}
+use Rattle.units.specs.Limits.{none}
 use Rattle.costs.specs.Stretch.{chainOf}
 use Rattle.equations.specs.Equations.{byDisk}
 use Rattle.equations.proofs.Minima.{Sought, sought-first, sought-more, sought-last, disk-min}
@@ -11,13 +12,13 @@ use Rattle.equations.proofs.walk.last_disk.Statement.{statement}
 use Rattle.equations.proofs.walk.last_disk.Tie as tie
 
 abbrev Inv-loop : tie.InvT-loop
-Inv-loop job d2 best₀ d1₀ best d1 = (0 ≤ d1) × (d1 ≤ d2) × Sought 0 d1 (byDisk (chainOf job) d2) best
+Inv-loop job d2 best₀ d1₀ best d1 = (0 ≤ d1) × (d1 ≤ d2) × Sought none 0 d1 (byDisk (chainOf job) none d2) best
 
 abbrev μ-loop : tie.MeasureT-loop
 μ-loop job d2 best₀ d1₀ best d1 = d2 - d1
 
 loop-holds : tie.Need-loop-holds Inv-loop μ-loop
-loop-holds c = (omega arith, omega arith, sought-first _ _ _)
+loop-holds c = (omega arith, omega arith, sought-first _ _ _ _)
 
 e-disk-requires : tie.Need-e-disk-requires Inv-loop μ-loop
 e-disk-requires c κs =
@@ -74,7 +75,7 @@ loop-again c =
     let loop = c .before .before .before .before .before .loop in (
       omega (arith, loop .inv .0),
       omega arith,
-      rw (c .offer .ensures, c .before .before .before .e-disk .ensures .value, c .before .before .e-mem .ensures .value, c .before .cd-at .ensures .value) (sought-more _ _ _ _ (loop .inv .0) (loop .inv .2)),
+      rw (c .offer .ensures, c .before .before .before .e-disk .ensures .value, c .before .before .e-mem .ensures .value, c .before .cd-at .ensures .value) (sought-more _ _ _ _ _ (loop .inv .0) (loop .inv .2)),
     )
 
 returns : tie.Need-returns Inv-loop μ-loop
@@ -82,7 +83,7 @@ returns c =
     let pre = c .before .before .pre in
     let loop = c .before .loop in
     let e : loop .d1 ≡ c .before .before .args .d2 = omega (arith, loop .inv .1) in
-    sought-last _ _ _ _ _ (rw e at (loop .inv .2)) (disk-min _ _ (pre .some-task)) (pre .in-time)
+    sought-last _ _ _ _ _ _ (rw e at (loop .inv .2)) (disk-min _ _ _ (pre .some-task)) (pre .in-time)
 
 pub last-disk-spec : {M : Type 1} → statement M
 last-disk-spec =

@@ -3,6 +3,7 @@
 use Prim.Native.Nat.{_-_, _≤_}
 use mathlib.Core.Path.{_≡_}
 use native.Mathlib.Omega.{arith}
+use Rattle.units.specs.Limits.{none}
 use Rattle.costs.specs.Stretch.{chainOf}
 use Rattle.equations.specs.Equations.{byMemory}
 use Rattle.equations.proofs.Minima.{Sought, sought-first, sought-more, sought-last, memory-min}
@@ -11,13 +12,13 @@ use Rattle.equations.proofs.walk.last_memory.Statement.{statement}
 use Rattle.equations.proofs.walk.last_memory.Tie as tie
 
 abbrev Inv-loop : tie.InvT-loop
-Inv-loop job d1 m2 best₀ m1₀ best m1 = (d1 ≤ m1) × (m1 ≤ m2) × Sought d1 m1 (byMemory (chainOf job) d1 m2) best
+Inv-loop job d1 m2 best₀ m1₀ best m1 = (d1 ≤ m1) × (m1 ≤ m2) × Sought none d1 m1 (byMemory (chainOf job) none d1 m2) best
 
 abbrev μ-loop : tie.MeasureT-loop
 μ-loop job d1 m2 best₀ m1₀ best m1 = m2 - m1
 
 loop-holds : tie.Need-loop-holds Inv-loop μ-loop
-loop-holds c = (omega arith, omega (arith, c .pre .start), sought-first _ _ _)
+loop-holds c = (omega arith, omega (arith, c .pre .start), sought-first _ _ _ _)
 
 e-mem-requires : tie.Need-e-mem-requires Inv-loop μ-loop
 e-mem-requires c κs =
@@ -82,7 +83,7 @@ loop-again c =
     let loop = c .before .before .before .before .before .loop in (
       omega (arith, loop .inv .0),
       omega arith,
-      rw (c .offer .ensures, c .before .before .e-verif .ensures .value, c .before .before .before .e-mem .ensures .value, c .before .cm-at .ensures .value) (sought-more _ _ _ _ (loop .inv .0) (loop .inv .2)),
+      rw (c .offer .ensures, c .before .before .e-verif .ensures .value, c .before .before .before .e-mem .ensures .value, c .before .cm-at .ensures .value) (sought-more _ _ _ _ _ (loop .inv .0) (loop .inv .2)),
     )
 
 returns : tie.Need-returns Inv-loop μ-loop
@@ -90,7 +91,7 @@ returns c =
     let pre = c .before .before .pre in
     let loop = c .before .loop in
     let e : loop .m1 ≡ c .before .before .args .m2 = omega (arith, loop .inv .1) in
-    sought-last _ _ _ _ _ (rw e at (loop .inv .2)) (memory-min _ _ _ (pre .start)) (pre .in-time)
+    sought-last _ _ _ _ _ _ (rw e at (loop .inv .2)) (memory-min _ _ _ _ (pre .start)) (pre .in-time)
 
 pub last-memory-spec : {M : Type 1} → statement M
 last-memory-spec =

@@ -3,6 +3,7 @@
 use Prim.Native.Nat.{_-_, _≤_}
 use mathlib.Core.Path.{_≡_}
 use native.Mathlib.Omega.{arith}
+use Rattle.units.specs.Limits.{none}
 use Rattle.costs.specs.Stretch.{chainOf}
 use Rattle.equations.specs.Equations.{byVerification}
 use Rattle.equations.proofs.Minima.{Sought, sought-first, sought-more, sought-last, verification-min}
@@ -11,13 +12,13 @@ use Rattle.equations.proofs.walk.last_verification.Statement.{statement
 use Rattle.equations.proofs.walk.last_verification.Tie as tie
 
 abbrev Inv-loop : tie.InvT-loop
-Inv-loop job d1 m1 mem v2 best₀ v1₀ best v1 = (m1 ≤ v1) × (v1 ≤ v2) × Sought m1 v1 (byVerification (chainOf job) d1 m1 mem v2) best
+Inv-loop job d1 m1 mem v2 best₀ v1₀ best v1 = (m1 ≤ v1) × (v1 ≤ v2) × Sought none m1 v1 (byVerification (chainOf job) none d1 m1 mem v2) best
 
 abbrev μ-loop : tie.MeasureT-loop
 μ-loop job d1 m1 mem v2 best₀ v1₀ best v1 = v2 - v1
 
 loop-holds : tie.Need-loop-holds Inv-loop μ-loop
-loop-holds c = (omega arith, omega (arith, c .pre .start), sought-first _ _ _)
+loop-holds c = (omega arith, omega (arith, c .pre .start), sought-first _ _ _ _)
 
 e-verif-requires : tie.Need-e-verif-requires Inv-loop μ-loop
 e-verif-requires c κs =
@@ -60,7 +61,7 @@ loop-again c =
     let loop = c .before .before .before .before .loop in (
       omega (arith, loop .inv .0),
       omega arith,
-      rw (c .offer .ensures, c .before .before .e-verif .ensures .value, c .before .e .ensures .0) (sought-more _ _ _ _ (loop .inv .0) (loop .inv .2)),
+      rw (c .offer .ensures, c .before .before .e-verif .ensures .value, c .before .e .ensures .0) (sought-more _ _ _ _ _ (loop .inv .0) (loop .inv .2)),
     )
 
 returns : tie.Need-returns Inv-loop μ-loop
@@ -68,7 +69,7 @@ returns c =
     let pre = c .before .before .pre in
     let loop = c .before .loop in
     let e : loop .v1 ≡ c .before .before .args .v2 = omega (arith, loop .inv .1) in
-    sought-last _ _ _ _ _ (rw e at (loop .inv .2)) (verification-min _ _ _ _ _ (pre .start)) (pre .in-time)
+    sought-last _ _ _ _ _ _ (rw e at (loop .inv .2)) (verification-min _ _ _ _ _ _ (pre .start)) (pre .in-time)
 
 pub last-verification-spec : {M : Type 1} → statement M
 last-verification-spec =
