@@ -8,8 +8,7 @@ use borrow.Author.Tests.{eq-eqb, ne-eqb}
 use Rattle.units.specs.Limits.{none}
 use Rattle.chain.specs.Chain.{Chain}
 use Rattle.chain.specs.declared.Factors.{Factors}
-use Rattle.chain.specs.declared.Recoveries.{Recoveries}
-use Rattle.chain.specs.Working.Factors.{stretchOf}
+use Rattle.chain.specs.Working.Factors.{stretchOf, ReadyForStretch}
 use Rattle.chain.specs.Working.Search.{leastQ, leastM, leastD}
 use Rattle.chain.proofs.Search.{leastQ-start, leastM-start, leastD-start, reach-cap}
 use Rattle.job.specs.Job.{stretchAllowed}
@@ -18,7 +17,8 @@ use Rattle.job.specs.declared.Job.{Job}
 use Rattle.costs.specs.Costs.{rdAt, rmAt}
 use Rattle.costs.specs.Stretch.{chainOf}
 use Rattle.costs.specs.Working.Factors.{factorsAt}
-use Rattle.costs.proofs.Stretches.{S-factors, both-decides}
+use Rattle.costs.proofs.Ranges.{rdAt-range, rmAt-range}
+use Rattle.costs.proofs.Stretches.{S-factors, both-decides, both-factored}
 use Rattle.equations.specs.Equations.{IsMin, E, byDisk, byMemory, byVerification, DiskEquation, MemoryEquation, VerificationEquation}
 use Rattle.equations.proofs.Minima.{min-once, disk-min, memory-min, verification-min}
 
@@ -65,10 +65,19 @@ module _ (job : Job) (sound : Sound job) (d1 m1 mem v1 v2 : ℕ) (h : v2 ≤ job
       no : stretchAllowed job v1 v2 ≡ false
       no = sym (both-decides job sound v1 v2 h) ∙ ap not (eq-eqb _ 0 (sym (ap (λ (f : Factors). f .both) is) ∙ z))
 
-  pub stretch-some : f .both ≢ 0 → (r : Recoveries) → r ≡ record { disk = rdAt job d1 + mem; memory = rmAt job m1 }
-      → stretchOf f r (leastQ (chainOf job) none d1 m1 mem v1) ≡ E (chainOf job) none d1 m1 mem v1 v2
-  unfolding chainOf
-  stretch-some n r e = rw (is, e, yes) (sym (S-factors job v1 v2 m1 d1 _ mem))
-    where
-      yes : stretchAllowed job v1 v2 ≡ true
-      yes = sym (both-decides job sound v1 v2 h) ∙ ap not (ne-eqb _ 0 (λ z. n (ap (λ (f : Factors). f .both) is ∙ z)))
+  module _ (n : f .both ≢ 0) where
+    pub stretch-ready : mem ≤ none → (q : ℕ) → q ≤ none → ReadyForStretch f (record { disk = rdAt job d1 + mem; memory = rmAt job m1 }) q
+    stretch-ready l q k =
+        record {
+          factors = rw is (both-factored job sound v1 v2 h (λ z. n (ap (λ (f : Factors). f .both) is ∙ z)));
+          recoveries = record { disk = omega (arith, rdAt-range job (sound .costs) d1); memory = rmAt-range job (sound .costs) m1 };
+          time = k;
+        }
+
+    pub stretch-some : stretchOf f (record { disk = rdAt job d1 + mem; memory = rmAt job m1 }) (leastQ (chainOf job) none d1 m1 mem v1)
+        ≡ E (chainOf job) none d1 m1 mem v1 v2
+    unfolding chainOf
+    stretch-some = rw (is, yes) (sym (S-factors job v1 v2 m1 d1 _ mem))
+      where
+        yes : stretchAllowed job v1 v2 ≡ true
+        yes = sym (both-decides job sound v1 v2 h) ∙ ap not (ne-eqb _ 0 (λ z. n (ap (λ (f : Factors). f .both) is ∙ z)))

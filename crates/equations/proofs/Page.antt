@@ -1,10 +1,18 @@
 -- The least times that the plan's theorem knows keep the equations of the page, and no other times do: the end position falls from each time to those that it is
 -- the min of. Assumes nothing.
-use Prim.Native.Nat.{ℕ, zero, suc, _≤_, _<_}
+use Prim.Native.Nat.{ℕ, zero, suc, min, _≤_, _<_}
 use mathlib.Core.Path.{_≡_, refl, sym, _∙_}
-use native.Mathlib.Decide.{ℕ-discrete}
+use native.Mathlib.Decide.{decLt, ℕ-discrete}
 use native.Mathlib.Omega.{arith}
 use Rattle.chain.specs.Chain.{Chain}
+use Rattle.chain.specs.Time.{Marks, D}
+use Rattle.chain.specs.Plan.{Allowed, IsPlan}
+use Rattle.chain.specs.Working.Search.{planMarks}
+use Rattle.chain.proofs.Lower.{leastD-lower}
+use Rattle.chain.proofs.Theorems.{plan-is-least}
+use Rattle.job.specs.declared.Job.{Job}
+use Rattle.costs.specs.Stretch.{chainOf}
+use Rattle.costs.proofs.Stretches.{S-rises}
 use Rattle.chain.proofs.Search.{leastQ-start, leastM-start, leastD-start}
 use Rattle.equations.specs.Equations.{IsMin, Equations, E-disk, E-mem, E-verif, E, SameTimes}
 use Rattle.equations.proofs.Minima.{min-once, disk-min, memory-min, verification-min}
@@ -106,3 +114,28 @@ module _ (c : Chain) (N : ℕ) (F-disk : (d2 : ℕ) → ℕ) (F-mem : (d1 m2 : �
             λ d1 m1 v1 v2 h k l.
             stretch-same d1 m1 h (memory-same d1 m1 h) v1 v2 k l (verification-same d1 m1 h (memory-same d1 m1 h) v1 k);
       }
+
+-- where the mins are cut off does not matter to E_disk below the cut: both are the least time of all allowed settings there
+module _ (job : Job) (N M n : ℕ) (h : 0 < n) (l : N ≤ M) where
+  abbrev chain : Chain
+  chain = chainOf job
+
+  lower : (K : ℕ) (g : Marks) → Allowed chain n g → E-disk chain K n ≤ D chain g n
+  lower K g s = leastD-lower chain (S-rises job) K n g s h
+
+  least : (K : ℕ) → E-disk chain K n < K → IsPlan chain n (planMarks chain K n) (E-disk chain K n)
+  least K k = plan-is-least chain (S-rises job) K n h k
+
+  pub any-cut : min N (E-disk chain M n) ≡ E-disk chain N n
+  any-cut = go (decLt (E-disk chain N n) N) (decLt (E-disk chain M n) N)
+    where
+      go : Dec (E-disk chain N n < N) → Dec (E-disk chain M n < N) → min N (E-disk chain M n) ≡ E-disk chain N n
+      go (yes a) _ =
+          let p = least N a in
+          let below : E-disk chain M n ≤ E-disk chain N n = omega (arith, lower M _ (p .allowed), p .time) in
+          let q = least M (omega arith) in
+          omega (arith, lower N _ (q .allowed), q .time)
+      go (no a) (yes b) =
+          let q = least M (omega arith) in
+          absurd (omega (arith, lower N _ (q .allowed), q .time))
+      go (no a) (no b) = omega (arith, disk-min chain N n h .cap)

@@ -3,7 +3,8 @@
 //     0 ───────── d1 ─────── m1 ───── v1 ───── v2
 //                disk      memory   verification, and this one
 //
-// `mem` is E_mem(d1, m1). NONE stands for every time of 2^34 ticks or more, and for that over a stretch that is not allowed.
+// `mem` is E_mem(d1, m1), handed in as a number so that the cycle is E_verif and E alone. A min is cut off at NONE, 2^34 ticks, and E over a stretch that is not
+// allowed is NONE.
 // The walk and the plan call these, for a job that has passed checks 3, 7 and 8.
 ghost use mathlib.Core.Path.{_≡_};
 ghost use Prim.Native.Nat.{min, _≤_};
@@ -12,10 +13,8 @@ ghost use Rattle.chain.specs.Working.Factors.{stretchCap};
 ghost use Rattle.costs.specs.Stretch.{chainOf};
 ghost use Rattle.costs.specs.Working.Factors.{factorsAt};
 ghost use Rattle.equations.specs.Equations.{E, DiskEquation, MemoryEquation, VerificationEquation};
-ghost use Rattle.equations.specs.Working.Ready.{ReadyForFactors, ReadyForRecoveries, RecoveriesAre, ReadyForStretch, ReadyForVerification, ReadyForMemory, ReadyForDisk};
+ghost use Rattle.equations.specs.Working.Ready.{ReadyForGrowths, ReadyForE, ReadyForVerification, ReadyForMemory, ReadyForDisk};
 use chain::Factors;
-use chain::Recoveries;
-use chain::stretch_time;
 use costs::cd_at;
 use costs::cm_at;
 use costs::rd_at;
@@ -25,6 +24,8 @@ use costs::v_at;
 use job::Job;
 use job::totals::weight_to;
 use units::NONE;
+use units::UNIT;
+use units::rounded_up;
 
 // The lesser of two times.
 fn min(a: u64, b: u64) -> u64
@@ -91,9 +92,9 @@ pub fn e_verif(job: Job, d1: usize, m1: usize, mem: u64, v2: usize) -> u64
     least
 }
 
-// The growths over the stretch from v1 to v2, whose weight is W, with the first part of (4) worked out.
+// The growths over the stretch from v1 to v2, whose weight is W, and the first part of (4).
 fn growths(job: Job, v1: usize, v2: usize) -> Factors
-    requires { ⌜ ReadyForFactors job v1 v2 ⌝ }
+    requires { ⌜ ReadyForGrowths job v1 v2 ⌝ }
     ensures { λ r. ⌜ r ≡ factorsAt job v1 v2 ⌝ }
 {
     let weights = job.weights;
@@ -101,31 +102,22 @@ fn growths(job: Job, v1: usize, v2: usize) -> Factors
     stretch_factors(job.platform, w, v_at(job, v2))
 }
 
-// R_D + E_mem(d1, m1), which a fail-stop error costs beside what is done again, and R_M, which a silent one does.
-fn recoveries(job: Job, d1: usize, m1: usize, mem: u64) -> Recoveries
-    requires { ⌜ ReadyForRecoveries job mem ⌝ }
-    ensures { λ r. ⌜ RecoveriesAre job d1 m1 mem r ⌝ }
-{
-    let disk = rd_at(job, d1) + mem;
-    Recoveries {
-        disk,
-        memory: rm_at(job, m1),
-    }
-}
-
 // (4)  E(d1, m1, v1, v2) = e^(λ_s W) ((e^(λ_f W) - 1) / λ_f + V*)
 //                        + e^(λ_s W) (e^(λ_f W) - 1) (R_D + E_mem(d1, m1))
 //                        + (e^((λ_s + λ_f) W) - 1) E_verif(d1, m1, v1)
-//                        + (e^(λ_s W) - 1) R_M,
-// its parts rounded up one by one. What has to be done again is asked of E_verif. The growth of both errors is 0 where the stretch is not allowed.
+//                        + (e^(λ_s W) - 1) R_M
+// In units of 2^-24 e^(λ_s W) is f.silent and e^((λ_s + λ_f) W) f.both, which is 0 where the stretch is not allowed; the first part is f.work. Each part is rounded
+// up. R_D and R_M are what going back to d1 and to m1 costs: R_D has the refill of memory in it, and both are 0 at the start.
 pub fn e(job: Job, d1: usize, m1: usize, mem: u64, v1: usize, v2: usize) -> u64
-    requires { ⌜ ReadyForStretch job m1 mem v1 v2 ⌝ }
+    requires { ⌜ ReadyForE job m1 mem v1 v2 ⌝ }
     ensures { λ r. ⌜ (r ≡ E (chainOf job) none d1 m1 mem v1 v2) × (r ≤ stretchCap) ⌝ }
 {
     let f = growths(job, v1, v2);
     if f.both == 0 {
         return NONE;
     }
-    let r = recoveries(job, d1, m1, mem);
-    stretch_time(f, r, e_verif(job, d1, m1, mem, v1))
+    f.work
+        + rounded_up((f.both - f.silent) * (rd_at(job, d1) + mem))
+        + rounded_up((f.both - UNIT) * e_verif(job, d1, m1, mem, v1))
+        + rounded_up((f.silent - UNIT) * rm_at(job, m1))
 }

@@ -1,16 +1,16 @@
 -- The cycle of `equations::times::e` and `equations::times::e_verif`. The end position falls at each call of E_verif: the measure is 2 v_2 for E and 2 v_2 + 1 for
 -- E_verif. The loop's invariant: the min of equation (1) over the v_1 seen so far. Assumes nothing.
 use Prim.Native.Nat.{ℕ, _+_, _-_, _*_, _≤_, _<_}
-use mathlib.Core.Path.{_≡_, _∙_, ap}
+use mathlib.Core.Path.{_≡_}
 use native.Mathlib.Omega.{arith}
-use Rattle.chain.specs.declared.Factors.{Factors}
 use Rattle.units.specs.Limits.{none}
 use Rattle.costs.specs.Stretch.{chainOf}
-use Rattle.costs.proofs.Stretches.{both-factored}
+use Rattle.chain.specs.Working.Factors.{stretchOf}
+use Rattle.chain.proofs.Products.{disk-product, again-product, memory-product, disk-part, again-part, memory-part}
 use Rattle.equations.specs.Equations.{IsMin, byVerification}
 use Rattle.equations.proofs.Minima.{min-first, min-more}
-use Rattle.equations.proofs.Levels.{stretch-none, stretch-some, verification-cap, verification-start, verification-found}
-use borrow.Fn.Kinds.{In}
+use Rattle.equations.proofs.Levels.{stretch-none, stretch-ready, stretch-some, verification-cap, verification-start, verification-found}
+use borrow.Fn.Kinds.{In, Out}
 use borrow.Fn.PlainCycle.{Measures, is, falls, and}
 use Rattle.equations.proofs.times.e.Reads as e
 use Rattle.equations.proofs.times.e.Kinds as e-kinds
@@ -18,10 +18,16 @@ use Rattle.equations.proofs.times.+e+e_verif.Lts-e as e-lts
 use Rattle.equations.proofs.times.e_verif.Reads as e-verif
 use Rattle.equations.proofs.times.e_verif.Kinds as e-verif-kinds
 use Rattle.equations.proofs.times.+e+e_verif.Lts-e_verif as e-verif-lts
-use Rattle.chain.proofs.stretch_time.Reads as stretch-time-reads
+use Rattle.costs.proofs.rd_at.Reads as rd-at-reads
+use Rattle.costs.proofs.rd_at.Kinds as rd-at-kinds
+use Rattle.costs.proofs.rm_at.Reads as rm-at-reads
+use Rattle.costs.proofs.rm_at.Kinds as rm-at-kinds
 use Rattle.equations.proofs.times.growths.Reads as growths-reads
+use Rattle.equations.proofs.times.growths.Kinds as growths-kinds
 use Rattle.equations.proofs.times.min.Reads as min-reads
-use Rattle.equations.proofs.times.recoveries.Reads as recoveries-reads
+use Rattle.equations.proofs.times.min.Kinds as min-kinds
+use Rattle.units.proofs.rounded_up.Reads as rounded-up-reads
+use Rattle.units.proofs.rounded_up.Kinds as rounded-up-kinds
 use Rattle.equations.proofs.times.+e+e_verif.{statement}
 use Rattle.equations.proofs.times.+e+e_verif.Tie.{close}
 
@@ -43,61 +49,104 @@ e-verif-at t = and 0 e-verif-kinds.ps (is 0 e-verif-kinds.ps μ-e-verif t) e-ver
 abbrev e-verif-below : ℕ → In 0 e-verif-kinds.ps
 e-verif-below t = and 0 e-verif-kinds.ps (falls 0 e-verif-kinds.ps _<_ μ-e-verif t) e-verif.Pre
 
-e-growths-requires : (t : ℕ) → e-lts.Need-growths-requires (
+-- the contracts that each of both calls by, those of the cycle below the measure t
+abbrev e-calls : ℕ →
+    In 0 growths-kinds.ps × Out 0 growths-kinds.ps growths-kinds.r
+    × In 0 rd-at-kinds.ps × Out 0 rd-at-kinds.ps rd-at-kinds.r
+    × In 0 rounded-up-kinds.ps × Out 0 rounded-up-kinds.ps rounded-up-kinds.r
+    × In 0 e-verif-kinds.ps × Out 0 e-verif-kinds.ps e-verif-kinds.r
+    × In 0 rm-at-kinds.ps × Out 0 rm-at-kinds.ps rm-at-kinds.r
+e-calls t = (
   growths-reads.Asked,
   growths-reads.Learnt,
-  recoveries-reads.Asked,
-  recoveries-reads.Learnt,
+  rd-at-reads.Asked,
+  rd-at-reads.Learnt,
+  rounded-up-reads.Asked,
+  rounded-up-reads.Learnt,
   e-verif-below t,
   e-verif.Post,
-  stretch-time-reads.Asked,
-  stretch-time-reads.Learnt,
-) (e-at t) e.Post
+  rm-at-reads.Asked,
+  rm-at-reads.Learnt,
+)
+
+abbrev e-verif-calls : ℕ →
+    In 0 e-verif-kinds.ps × Out 0 e-verif-kinds.ps e-verif-kinds.r
+    × In 0 e-kinds.ps × Out 0 e-kinds.ps e-kinds.r
+    × In 0 min-kinds.ps × Out 0 min-kinds.ps min-kinds.r
+e-verif-calls t = (e-verif-below t, e-verif.Post, e-below t, e.Post, min-reads.Asked, min-reads.Learnt)
+
+e-growths-requires : (t : ℕ) → e-lts.Need-growths-requires (e-calls t) (e-at t) e.Post
 e-growths-requires t c κs =
     let pre = c .pre .1 in
     pre .stretch
 
-e-returns : (t : ℕ) → e-lts.Need-returns (
-  growths-reads.Asked,
-  growths-reads.Learnt,
-  recoveries-reads.Asked,
-  recoveries-reads.Learnt,
-  e-verif-below t,
-  e-verif.Post,
-  stretch-time-reads.Asked,
-  stretch-time-reads.Learnt,
-) (e-at t) e.Post
+e-returns : (t : ℕ) → e-lts.Need-returns (e-calls t) (e-at t) e.Post
 e-returns t c =
     let args = c .before .before .before .args in
     let pre = c .before .before .before .pre .1 in
     (stretch-none (args .job) (pre .stretch .sound) (args .d1) (args .m1) (args .mem) (args .v1) (args .v2) (pre .stretch .end) _ (c .before .before .growths .ensures) (c .if1 .taken), omega arith)
 
-e-recoveries-requires : (t : ℕ) → e-lts.Need-recoveries-requires (
-  growths-reads.Asked,
-  growths-reads.Learnt,
-  recoveries-reads.Asked,
-  recoveries-reads.Learnt,
-  e-verif-below t,
-  e-verif.Post,
-  stretch-time-reads.Asked,
-  stretch-time-reads.Learnt,
-) (e-at t) e.Post
-e-recoveries-requires t c κs =
-    let pre = c .before .before .before .pre .1 in
-    record { sound = pre .stretch .sound; time = pre .time }
+e-sub-rounded-up : (t : ℕ) → e-lts.Need-sub-rounded-up (e-calls t) (e-at t) e.Post
+e-sub-rounded-up t c =
+    let args = c .before .before .before .before .args in
+    let pre = c .before .before .before .before .pre .1 in
+    let ready =
+    stretch-ready (args .job) (pre .stretch .sound) (args .d1) (args .m1) (args .mem) (args .v1) (args .v2) (pre .stretch .end) _ (c .before .before .before .growths .ensures)
+    (c .before .if1 .left) (pre .time) 0 (omega arith)
+    in
+    ready .factors .both
 
-e-e-verif-requires : (t : ℕ) → e-lts.Need-e-verif-requires (
-  growths-reads.Asked,
-  growths-reads.Learnt,
-  recoveries-reads.Asked,
-  recoveries-reads.Learnt,
-  e-verif-below t,
-  e-verif.Post,
-  stretch-time-reads.Asked,
-  stretch-time-reads.Learnt,
-) (e-at t) e.Post
+e-rd-at-requires : (t : ℕ) → e-lts.Need-rd-at-requires (e-calls t) (e-at t) e.Post
+e-rd-at-requires t c κs = tt
+
+e-add-rounded-up : (t : ℕ) → e-lts.Need-add-rounded-up (e-calls t) (e-at t) e.Post
+e-add-rounded-up t c =
+    let pre = c .before .before .before .before .before .pre .1 in
+    omega (arith, c .rd-at .ensures .fits, pre .time)
+
+e-mul-rounded-up : (t : ℕ) → e-lts.Need-mul-rounded-up (e-calls t) (e-at t) e.Post
+e-mul-rounded-up t c =
+    let args = c .before .before .before .before .before .args in
+    let pre = c .before .before .before .before .before .pre .1 in
+    let ready =
+    stretch-ready (args .job) (pre .stretch .sound) (args .d1) (args .m1) (args .mem) (args .v1) (args .v2) (pre .stretch .end) _ (c .before .before .before .before .growths .ensures)
+    (c .before .before .if1 .left) (pre .time) 0 (omega arith)
+    in
+    rw (c .rd-at .ensures .value) (omega (arith, disk-product _ _ _ ready))
+
+e-rounded-up-requires : (t : ℕ) → e-lts.Need-rounded-up-requires (e-calls t) (e-at t) e.Post
+e-rounded-up-requires t c κs =
+    let args = c .before .before .before .before .before .args in
+    let pre = c .before .before .before .before .before .pre .1 in
+    let ready =
+    stretch-ready (args .job) (pre .stretch .sound) (args .d1) (args .m1) (args .mem) (args .v1) (args .v2) (pre .stretch .end) _ (c .before .before .before .before .growths .ensures)
+    (c .before .before .if1 .left) (pre .time) 0 (omega arith)
+    in
+    rw (c .rd-at .ensures .value) (omega (arith, disk-product _ _ _ ready))
+
+e-add-result : (t : ℕ) → e-lts.Need-add-result (e-calls t) (e-at t) e.Post
+e-add-result t c =
+    let args = c .before .before .before .before .before .before .before .args in
+    let pre = c .before .before .before .before .before .before .before .pre .1 in
+    let ready =
+    stretch-ready (args .job) (pre .stretch .sound) (args .d1) (args .m1) (args .mem) (args .v1) (args .v2) (pre .stretch .end) _ (c .before .before .before .before .before .before .growths .ensures)
+    (c .before .before .before .before .if1 .left) (pre .time) 0 (omega arith)
+    in
+    rw (c .before .rounded-up .ensures, c .before .before .rd-at .ensures .value) (omega (arith, ready .factors .work, disk-part _ _ _ ready))
+
+e-sub-rounded-up-2 : (t : ℕ) → e-lts.Need-sub-rounded-up-2 (e-calls t) (e-at t) e.Post
+e-sub-rounded-up-2 t c =
+    let args = c .before .before .before .before .before .before .before .before .args in
+    let pre = c .before .before .before .before .before .before .before .before .pre .1 in
+    let ready =
+    stretch-ready (args .job) (pre .stretch .sound) (args .d1) (args .m1) (args .mem) (args .v1) (args .v2) (pre .stretch .end) _ (c .before .before .before .before .before .before .before .growths .ensures)
+    (c .before .before .before .before .before .if1 .left) (pre .time) 0 (omega arith)
+    in
+    omega (arith, ready .factors .silent, ready .factors .both)
+
+e-e-verif-requires : (t : ℕ) → e-lts.Need-e-verif-requires (e-calls t) (e-at t) e.Post
 e-e-verif-requires t c κs =
-    let pre = c .before .before .before .before .pre in (
+    let pre = c .before .before .before .before .before .before .before .before .pre in (
       omega (arith, pre .0, pre .1 .stretch .order),
       record {
         sound = pre .1 .stretch .sound;
@@ -107,47 +156,95 @@ e-e-verif-requires t c κs =
       },
     )
 
-e-stretch-time-requires : (t : ℕ) → e-lts.Need-stretch-time-requires (
-  growths-reads.Asked,
-  growths-reads.Learnt,
-  recoveries-reads.Asked,
-  recoveries-reads.Learnt,
-  e-verif-below t,
-  e-verif.Post,
-  stretch-time-reads.Asked,
-  stretch-time-reads.Learnt,
-) (e-at t) e.Post
-e-stretch-time-requires t c κs =
-    let args = c .before .before .before .before .before .args in
-    let pre = c .before .before .before .before .before .pre .1 in
-    let growths = c .before .before .before .before .growths in
-    record {
-      factors =
-          rw (growths .ensures)
-          (both-factored (args .job) (pre .stretch .sound) (args .v1) (args .v2) (pre .stretch .end)
-          (λ z. c .before .before .if1 .left (ap (λ (f : Factors). f .both) (growths .ensures) ∙ z)));
-      recoveries = c .before .recoveries .ensures .range;
-      time = omega (arith, c .e-verif .ensures .value, verification-cap (chainOf (args .job)) (args .d1) (args .m1) (args .mem) (args .v1));
-    }
+e-mul-rounded-up-2 : (t : ℕ) → e-lts.Need-mul-rounded-up-2 (e-calls t) (e-at t) e.Post
+e-mul-rounded-up-2 t c =
+    let args = c .before .before .before .before .before .before .before .before .before .args in
+    let pre = c .before .before .before .before .before .before .before .before .before .pre .1 in
+    let ready =
+    stretch-ready (args .job) (pre .stretch .sound) (args .d1) (args .m1) (args .mem) (args .v1) (args .v2) (pre .stretch .end) _ (c .before .before .before .before .before .before .before .before .growths .ensures)
+    (c .before .before .before .before .before .before .if1 .left) (pre .time) (c .e-verif .result) (omega (arith, c .e-verif .ensures .value, verification-cap (chainOf (args .job)) (args .d1) (args .m1) (args .mem) (args .v1)))
+    in
+    omega (arith, again-product _ _ _ ready)
 
-e-returns-2 : (t : ℕ) → e-lts.Need-returns-2 (
-  growths-reads.Asked,
-  growths-reads.Learnt,
-  recoveries-reads.Asked,
-  recoveries-reads.Learnt,
-  e-verif-below t,
-  e-verif.Post,
-  stretch-time-reads.Asked,
-  stretch-time-reads.Learnt,
-) (e-at t) e.Post
+e-rounded-up-requires-2 : (t : ℕ) → e-lts.Need-rounded-up-requires-2 (e-calls t) (e-at t) e.Post
+e-rounded-up-requires-2 t c κs =
+    let args = c .before .before .before .before .before .before .before .before .before .args in
+    let pre = c .before .before .before .before .before .before .before .before .before .pre .1 in
+    let ready =
+    stretch-ready (args .job) (pre .stretch .sound) (args .d1) (args .m1) (args .mem) (args .v1) (args .v2) (pre .stretch .end) _ (c .before .before .before .before .before .before .before .before .growths .ensures)
+    (c .before .before .before .before .before .before .if1 .left) (pre .time) (c .e-verif .result) (omega (arith, c .e-verif .ensures .value, verification-cap (chainOf (args .job)) (args .d1) (args .m1) (args .mem) (args .v1)))
+    in
+    omega (arith, again-product _ _ _ ready)
+
+e-add-result-2 : (t : ℕ) → e-lts.Need-add-result-2 (e-calls t) (e-at t) e.Post
+e-add-result-2 t c =
+    let args = c .before .before .before .before .before .before .before .before .before .before .args in
+    let pre = c .before .before .before .before .before .before .before .before .before .before .pre .1 in
+    let ready =
+    stretch-ready (args .job) (pre .stretch .sound) (args .d1) (args .m1) (args .mem) (args .v1) (args .v2) (pre .stretch .end) _ (c .before .before .before .before .before .before .before .before .before .growths .ensures)
+    (c .before .before .before .before .before .before .before .if1 .left) (pre .time) (c .before .e-verif .result) (omega (arith, c .before .e-verif .ensures .value, verification-cap (chainOf (args .job)) (args .d1) (args .m1) (args .mem) (args .v1)))
+    in
+    rw (c .before .before .before .before .rounded-up .ensures, c .before .before .before .before .before .rd-at .ensures .value, c .rounded-up2 .ensures)
+    (omega (arith, ready .factors .work, disk-part _ _ _ ready, again-part _ _ _ ready))
+
+e-sub-rounded-up-3 : (t : ℕ) → e-lts.Need-sub-rounded-up-3 (e-calls t) (e-at t) e.Post
+e-sub-rounded-up-3 t c =
+    let args = c .before .before .before .before .before .before .before .before .before .before .before .args in
+    let pre = c .before .before .before .before .before .before .before .before .before .before .before .pre .1 in
+    let ready =
+    stretch-ready (args .job) (pre .stretch .sound) (args .d1) (args .m1) (args .mem) (args .v1) (args .v2) (pre .stretch .end) _ (c .before .before .before .before .before .before .before .before .before .before .growths .ensures)
+    (c .before .before .before .before .before .before .before .before .if1 .left) (pre .time) 0 (omega arith)
+    in
+    ready .factors .silent
+
+e-rm-at-requires : (t : ℕ) → e-lts.Need-rm-at-requires (e-calls t) (e-at t) e.Post
+e-rm-at-requires t c κs = tt
+
+e-mul-rounded-up-3 : (t : ℕ) → e-lts.Need-mul-rounded-up-3 (e-calls t) (e-at t) e.Post
+e-mul-rounded-up-3 t c =
+    let args = c .before .before .before .before .before .before .before .before .before .before .before .before .args in
+    let pre = c .before .before .before .before .before .before .before .before .before .before .before .before .pre .1 in
+    let ready =
+    stretch-ready (args .job) (pre .stretch .sound) (args .d1) (args .m1) (args .mem) (args .v1) (args .v2) (pre .stretch .end) _ (c .before .before .before .before .before .before .before .before .before .before .before .growths .ensures)
+    (c .before .before .before .before .before .before .before .before .before .if1 .left) (pre .time) 0 (omega arith)
+    in
+    rw (c .rm-at .ensures .value) (omega (arith, memory-product _ _ _ ready))
+
+e-rounded-up-requires-3 : (t : ℕ) → e-lts.Need-rounded-up-requires-3 (e-calls t) (e-at t) e.Post
+e-rounded-up-requires-3 t c κs =
+    let args = c .before .before .before .before .before .before .before .before .before .before .before .before .args in
+    let pre = c .before .before .before .before .before .before .before .before .before .before .before .before .pre .1 in
+    let ready =
+    stretch-ready (args .job) (pre .stretch .sound) (args .d1) (args .m1) (args .mem) (args .v1) (args .v2) (pre .stretch .end) _ (c .before .before .before .before .before .before .before .before .before .before .before .growths .ensures)
+    (c .before .before .before .before .before .before .before .before .before .if1 .left) (pre .time) 0 (omega arith)
+    in
+    rw (c .rm-at .ensures .value) (omega (arith, memory-product _ _ _ ready))
+
+e-add-result-3 : (t : ℕ) → e-lts.Need-add-result-3 (e-calls t) (e-at t) e.Post
+e-add-result-3 t c =
+    let args = c .before .before .before .before .before .before .before .before .before .before .before .before .before .args in
+    let pre = c .before .before .before .before .before .before .before .before .before .before .before .before .before .pre .1 in
+    let ready =
+    stretch-ready (args .job) (pre .stretch .sound) (args .d1) (args .m1) (args .mem) (args .v1) (args .v2) (pre .stretch .end) _ (c .before .before .before .before .before .before .before .before .before .before .before .before .growths .ensures)
+    (c .before .before .before .before .before .before .before .before .before .before .if1 .left) (pre .time) (c .before .before .before .before .e-verif .result) (omega (arith, c .before .before .before .before .e-verif .ensures .value, verification-cap (chainOf (args .job)) (args .d1) (args .m1) (args .mem) (args .v1)))
+    in
+    rw (c .before .before .before .before .before .before .before .rounded-up .ensures, c .before .before .before .before .before .before .before .before .rd-at .ensures .value, c .before .before .before .rounded-up2 .ensures, c .rounded-up3 .ensures, c .before .rm-at .ensures .value)
+    (omega (arith, ready .factors .work, disk-part _ _ _ ready, again-part _ _ _ ready, memory-part _ _ _ ready))
+
+e-returns-2 : (t : ℕ) → e-lts.Need-returns-2 (e-calls t) (e-at t) e.Post
+unfolding stretchOf
 e-returns-2 t c =
-    let args = c .before .before .before .before .before .before .args in
-    let pre = c .before .before .before .before .before .before .pre .1 in
-    let growths = c .before .before .before .before .before .growths in
-    let again = stretch-some (args .job) (pre .stretch .sound) (args .d1) (args .m1) (args .mem) (args .v1) (args .v2) (pre .stretch .end) _ (growths .ensures) in (
-      c .stretch-time .ensures .value
-          ∙ rw (c .before .e-verif .ensures .value) (again (c .before .before .before .if1 .left) _ (c .before .before .recoveries .ensures .value)),
-      c .stretch-time .ensures .cap,
+    let args = c .before .before .before .before .before .before .before .before .before .before .before .before .before .args in
+    let pre = c .before .before .before .before .before .before .before .before .before .before .before .before .before .pre .1 in
+    let ready =
+    stretch-ready (args .job) (pre .stretch .sound) (args .d1) (args .m1) (args .mem) (args .v1) (args .v2) (pre .stretch .end) _ (c .before .before .before .before .before .before .before .before .before .before .before .before .growths .ensures)
+    (c .before .before .before .before .before .before .before .before .before .before .if1 .left) (pre .time) (c .before .before .before .before .e-verif .result) (omega (arith, c .before .before .before .before .e-verif .ensures .value, verification-cap (chainOf (args .job)) (args .d1) (args .m1) (args .mem) (args .v1)))
+    in
+    rw (c .before .before .before .before .before .before .before .rounded-up .ensures, c .before .before .before .before .before .before .before .before .rd-at .ensures .value, c .before .before .before .rounded-up2 .ensures, c .rounded-up3 .ensures, c .before .rm-at .ensures .value) (
+      rw (c .before .before .before .before .e-verif .ensures .value)
+          (stretch-some (args .job) (pre .stretch .sound) (args .d1) (args .m1) (args .mem) (args .v1) (args .v2) (pre .stretch .end) _ (c .before .before .before .before .before .before .before .before .before .before .before .before .growths .ensures)
+          (c .before .before .before .before .before .before .before .before .before .before .if1 .left)),
+      omega (arith, ready .factors .work, disk-part _ _ _ ready, again-part _ _ _ ready, memory-part _ _ _ ready),
     )
 
 abbrev e-verif-Inv-loop : e-verif-lts.InvT-loop
@@ -156,34 +253,13 @@ e-verif-Inv-loop job d1 m1 mem v2 least₀ v1₀ least v1 = (m1 ≤ v1) × (v1 �
 abbrev e-verif-μ-loop : e-verif-lts.MeasureT-loop
 e-verif-μ-loop job d1 m1 mem v2 least₀ v1₀ least v1 = v2 - v1
 
-e-verif-returns : (t : ℕ) → e-verif-lts.Need-returns (
-  e-verif-below t,
-  e-verif.Post,
-  e-below t,
-  e.Post,
-  min-reads.Asked,
-  min-reads.Learnt,
-) (e-verif-at t) e-verif.Post e-verif-Inv-loop e-verif-μ-loop
+e-verif-returns : (t : ℕ) → e-verif-lts.Need-returns (e-verif-calls t) (e-verif-at t) e-verif.Post e-verif-Inv-loop e-verif-μ-loop
 e-verif-returns t c = rw (c .if1 .taken) (verification-start _ _ _ _)
 
-e-verif-loop-holds : (t : ℕ) → e-verif-lts.Need-loop-holds (
-  e-verif-below t,
-  e-verif.Post,
-  e-below t,
-  e.Post,
-  min-reads.Asked,
-  min-reads.Learnt,
-) (e-verif-at t) e-verif.Post e-verif-Inv-loop e-verif-μ-loop
+e-verif-loop-holds : (t : ℕ) → e-verif-lts.Need-loop-holds (e-verif-calls t) (e-verif-at t) e-verif.Post e-verif-Inv-loop e-verif-μ-loop
 e-verif-loop-holds t c = (omega arith, omega (arith, c .before .pre .1 .start), min-first _ _ _)
 
-e-verif-e-verif-requires : (t : ℕ) → e-verif-lts.Need-e-verif-requires (
-  e-verif-below t,
-  e-verif.Post,
-  e-below t,
-  e.Post,
-  min-reads.Asked,
-  min-reads.Learnt,
-) (e-verif-at t) e-verif.Post e-verif-Inv-loop e-verif-μ-loop
+e-verif-e-verif-requires : (t : ℕ) → e-verif-lts.Need-e-verif-requires (e-verif-calls t) (e-verif-at t) e-verif.Post e-verif-Inv-loop e-verif-μ-loop
 e-verif-e-verif-requires t c κs =
     let pre = c .before .before .before .pre in
     let inv = c .before .loop .inv in (
@@ -191,14 +267,7 @@ e-verif-e-verif-requires t c κs =
       record { sound = pre .1 .sound; start = inv .0; end = omega (arith, inv .1, pre .1 .end); time = pre .1 .time },
     )
 
-e-verif-e-requires : (t : ℕ) → e-verif-lts.Need-e-requires (
-  e-verif-below t,
-  e-verif.Post,
-  e-below t,
-  e.Post,
-  min-reads.Asked,
-  min-reads.Learnt,
-) (e-verif-at t) e-verif.Post e-verif-Inv-loop e-verif-μ-loop
+e-verif-e-requires : (t : ℕ) → e-verif-lts.Need-e-requires (e-verif-calls t) (e-verif-at t) e-verif.Post e-verif-Inv-loop e-verif-μ-loop
 e-verif-e-requires t c κs =
     let pre = c .before .before .before .before .pre in
     let inv = c .before .before .loop .inv in (
@@ -206,59 +275,24 @@ e-verif-e-requires t c κs =
       record { stretch = record { sound = pre .1 .sound; order = omega arith; end = pre .1 .end }; start = inv .0; time = pre .1 .time },
     )
 
-e-verif-add-min : (t : ℕ) → e-verif-lts.Need-add-min (
-  e-verif-below t,
-  e-verif.Post,
-  e-below t,
-  e.Post,
-  min-reads.Asked,
-  min-reads.Learnt,
-) (e-verif-at t) e-verif.Post e-verif-Inv-loop e-verif-μ-loop
+e-verif-add-min : (t : ℕ) → e-verif-lts.Need-add-min (e-verif-calls t) (e-verif-at t) e-verif.Post e-verif-Inv-loop e-verif-μ-loop
 e-verif-add-min t c =
     let args = c .before .before .before .before .before .args in
     let loop = c .before .before .before .loop in
     omega (arith, c .before .e-verif .ensures .value, verification-cap (chainOf (args .job)) (args .d1) (args .m1) (args .mem) (loop .v1), c .e .ensures .1)
 
-e-verif-min-requires : (t : ℕ) → e-verif-lts.Need-min-requires (
-  e-verif-below t,
-  e-verif.Post,
-  e-below t,
-  e.Post,
-  min-reads.Asked,
-  min-reads.Learnt,
-) (e-verif-at t) e-verif.Post e-verif-Inv-loop e-verif-μ-loop
+e-verif-min-requires : (t : ℕ) → e-verif-lts.Need-min-requires (e-verif-calls t) (e-verif-at t) e-verif.Post e-verif-Inv-loop e-verif-μ-loop
 e-verif-min-requires t c κs = tt
 
-e-verif-add-v1 : (t : ℕ) → e-verif-lts.Need-add-v1 (
-  e-verif-below t,
-  e-verif.Post,
-  e-below t,
-  e.Post,
-  min-reads.Asked,
-  min-reads.Learnt,
-) (e-verif-at t) e-verif.Post e-verif-Inv-loop e-verif-μ-loop
+e-verif-add-v1 : (t : ℕ) → e-verif-lts.Need-add-v1 (e-verif-calls t) (e-verif-at t) e-verif.Post e-verif-Inv-loop e-verif-μ-loop
 e-verif-add-v1 t c =
     let pre = c .before .before .before .before .before .before .pre .1 in
     omega (arith, pre .end, pre .sound .few-tasks)
 
-e-verif-loop-less : (t : ℕ) → e-verif-lts.Need-loop-less (
-  e-verif-below t,
-  e-verif.Post,
-  e-below t,
-  e.Post,
-  min-reads.Asked,
-  min-reads.Learnt,
-) (e-verif-at t) e-verif.Post e-verif-Inv-loop e-verif-μ-loop
+e-verif-loop-less : (t : ℕ) → e-verif-lts.Need-loop-less (e-verif-calls t) (e-verif-at t) e-verif.Post e-verif-Inv-loop e-verif-μ-loop
 e-verif-loop-less t c = omega arith
 
-e-verif-loop-again : (t : ℕ) → e-verif-lts.Need-loop-again (
-  e-verif-below t,
-  e-verif.Post,
-  e-below t,
-  e.Post,
-  min-reads.Asked,
-  min-reads.Learnt,
-) (e-verif-at t) e-verif.Post e-verif-Inv-loop e-verif-μ-loop
+e-verif-loop-again : (t : ℕ) → e-verif-lts.Need-loop-again (e-verif-calls t) (e-verif-at t) e-verif.Post e-verif-Inv-loop e-verif-μ-loop
 e-verif-loop-again t c =
     let loop = c .before .before .before .before .loop in (
       omega (arith, loop .inv .0),
@@ -266,14 +300,7 @@ e-verif-loop-again t c =
       rw (c .min .ensures, c .before .e .ensures .0, c .before .before .e-verif .ensures .value) (min-more _ _ _ _ _ (loop .inv .0) (loop .inv .2)),
     )
 
-e-verif-returns-2 : (t : ℕ) → e-verif-lts.Need-returns-2 (
-  e-verif-below t,
-  e-verif.Post,
-  e-below t,
-  e.Post,
-  min-reads.Asked,
-  min-reads.Learnt,
-) (e-verif-at t) e-verif.Post e-verif-Inv-loop e-verif-μ-loop
+e-verif-returns-2 : (t : ℕ) → e-verif-lts.Need-returns-2 (e-verif-calls t) (e-verif-at t) e-verif.Post e-verif-Inv-loop e-verif-μ-loop
 e-verif-returns-2 t c =
     let args = c .before .before .before .args in
     let pre = c .before .before .before .pre .1 in
@@ -282,26 +309,30 @@ e-verif-returns-2 t c =
     verification-found _ _ _ _ _ _ (omega (arith, pre .start, c .before .before .if1 .left)) (rw e at (loop .inv .2))
 
 pub +e+e-verif-spec : {M : Type 1} → statement M
-+e+e-verif-spec = close μ-e μ-e-verif (λ t. e-lts.spec (
-  growths-reads.Asked,
-  growths-reads.Learnt,
-  recoveries-reads.Asked,
-  recoveries-reads.Learnt,
-  e-verif-below t,
-  e-verif.Post,
-  stretch-time-reads.Asked,
-  stretch-time-reads.Learnt,
-)
++e+e-verif-spec = close μ-e μ-e-verif (λ t. e-lts.spec (e-calls t)
     (e-at t)
     e.Post
     (e-growths-requires t)
     (e-returns t)
-    (e-recoveries-requires t)
+    (e-sub-rounded-up t)
+    (e-rd-at-requires t)
+    (e-add-rounded-up t)
+    (e-mul-rounded-up t)
+    (e-rounded-up-requires t)
+    (e-add-result t)
+    (e-sub-rounded-up-2 t)
     (e-e-verif-requires t)
-    (e-stretch-time-requires t)
+    (e-mul-rounded-up-2 t)
+    (e-rounded-up-requires-2 t)
+    (e-add-result-2 t)
+    (e-sub-rounded-up-3 t)
+    (e-rm-at-requires t)
+    (e-mul-rounded-up-3 t)
+    (e-rounded-up-requires-3 t)
+    (e-add-result-3 t)
     (e-returns-2 t))
     λ t. e-verif-lts.spec
-    (e-verif-below t, e-verif.Post, e-below t, e.Post, min-reads.Asked, min-reads.Learnt)
+    (e-verif-calls t)
     (e-verif-at t)
     e-verif.Post
     e-verif-Inv-loop

@@ -8,14 +8,17 @@ use Rattle.costs.specs.Stretch.{chainOf}
 use Rattle.equations.specs.Equations.{IsMin, byDisk}
 use Rattle.equations.proofs.Minima.{min-first, min-more}
 use Rattle.equations.proofs.Levels.{disk-cap, memory-cap, disk-start, disk-found}
-use borrow.Fn.Kinds.{In}
+use borrow.Fn.Kinds.{In, Out}
 use borrow.Fn.PlainCycle.{Measures, is, falls, and}
 use Rattle.equations.proofs.times.e_disk.Reads as e-disk
 use Rattle.equations.proofs.times.e_disk.Kinds as e-disk-kinds
 use Rattle.equations.proofs.times.+e_disk.Lts-e_disk as e-disk-lts
 use Rattle.costs.proofs.cd_at.Reads as cd-at-reads
+use Rattle.costs.proofs.cd_at.Kinds as cd-at-kinds
 use Rattle.equations.proofs.times.e_mem.Reads as e-mem-reads
+use Rattle.equations.proofs.times.e_mem.Kinds as e-mem-kinds
 use Rattle.equations.proofs.times.min.Reads as min-reads
+use Rattle.equations.proofs.times.min.Kinds as min-kinds
 use Rattle.equations.proofs.times.+e_disk.{statement}
 use Rattle.equations.proofs.times.+e_disk.Tie.{close}
 
@@ -34,7 +37,13 @@ e-disk-Inv-loop job d2 least₀ d1₀ least d1 = (d1 ≤ d2) × IsMin none 0 d1 
 abbrev e-disk-μ-loop : e-disk-lts.MeasureT-loop
 e-disk-μ-loop job d2 least₀ d1₀ least d1 = d2 - d1
 
-e-disk-returns : (t : ℕ) → e-disk-lts.Need-returns (
+-- the contracts that it calls by, its own below the measure t
+abbrev e-disk-calls : ℕ →
+    In 0 e-disk-kinds.ps × Out 0 e-disk-kinds.ps e-disk-kinds.r
+    × In 0 e-mem-kinds.ps × Out 0 e-mem-kinds.ps e-mem-kinds.r
+    × In 0 cd-at-kinds.ps × Out 0 cd-at-kinds.ps cd-at-kinds.r
+    × In 0 min-kinds.ps × Out 0 min-kinds.ps min-kinds.r
+e-disk-calls t = (
   e-disk-below t,
   e-disk.Post,
   e-mem-reads.Asked,
@@ -43,59 +52,25 @@ e-disk-returns : (t : ℕ) → e-disk-lts.Need-returns (
   cd-at-reads.Learnt,
   min-reads.Asked,
   min-reads.Learnt,
-) (e-disk-at t) e-disk.Post e-disk-Inv-loop e-disk-μ-loop
+)
+
+e-disk-returns : (t : ℕ) → e-disk-lts.Need-returns (e-disk-calls t) (e-disk-at t) e-disk.Post e-disk-Inv-loop e-disk-μ-loop
 e-disk-returns t c = rw (c .if1 .taken) (disk-start _)
 
-e-disk-loop-holds : (t : ℕ) → e-disk-lts.Need-loop-holds (
-  e-disk-below t,
-  e-disk.Post,
-  e-mem-reads.Asked,
-  e-mem-reads.Learnt,
-  cd-at-reads.Asked,
-  cd-at-reads.Learnt,
-  min-reads.Asked,
-  min-reads.Learnt,
-) (e-disk-at t) e-disk.Post e-disk-Inv-loop e-disk-μ-loop
+e-disk-loop-holds : (t : ℕ) → e-disk-lts.Need-loop-holds (e-disk-calls t) (e-disk-at t) e-disk.Post e-disk-Inv-loop e-disk-μ-loop
 e-disk-loop-holds t c = (omega arith, min-first _ _ _)
 
-e-disk-e-disk-requires : (t : ℕ) → e-disk-lts.Need-e-disk-requires (
-  e-disk-below t,
-  e-disk.Post,
-  e-mem-reads.Asked,
-  e-mem-reads.Learnt,
-  cd-at-reads.Asked,
-  cd-at-reads.Learnt,
-  min-reads.Asked,
-  min-reads.Learnt,
-) (e-disk-at t) e-disk.Post e-disk-Inv-loop e-disk-μ-loop
+e-disk-e-disk-requires : (t : ℕ) → e-disk-lts.Need-e-disk-requires (e-disk-calls t) (e-disk-at t) e-disk.Post e-disk-Inv-loop e-disk-μ-loop
 e-disk-e-disk-requires t c κs =
     let pre = c .before .before .before .pre in
     (omega (arith, pre .0), record { sound = pre .1 .sound; end = omega (arith, pre .1 .end) })
 
-e-disk-e-mem-requires : (t : ℕ) → e-disk-lts.Need-e-mem-requires (
-  e-disk-below t,
-  e-disk.Post,
-  e-mem-reads.Asked,
-  e-mem-reads.Learnt,
-  cd-at-reads.Asked,
-  cd-at-reads.Learnt,
-  min-reads.Asked,
-  min-reads.Learnt,
-) (e-disk-at t) e-disk.Post e-disk-Inv-loop e-disk-μ-loop
+e-disk-e-mem-requires : (t : ℕ) → e-disk-lts.Need-e-mem-requires (e-disk-calls t) (e-disk-at t) e-disk.Post e-disk-Inv-loop e-disk-μ-loop
 e-disk-e-mem-requires t c κs =
     let pre = c .before .before .before .before .pre .1 in
     record { sound = pre .sound; start = c .before .before .loop .inv .0; end = pre .end }
 
-e-disk-add-min : (t : ℕ) → e-disk-lts.Need-add-min (
-  e-disk-below t,
-  e-disk.Post,
-  e-mem-reads.Asked,
-  e-mem-reads.Learnt,
-  cd-at-reads.Asked,
-  cd-at-reads.Learnt,
-  min-reads.Asked,
-  min-reads.Learnt,
-) (e-disk-at t) e-disk.Post e-disk-Inv-loop e-disk-μ-loop
+e-disk-add-min : (t : ℕ) → e-disk-lts.Need-add-min (e-disk-calls t) (e-disk-at t) e-disk.Post e-disk-Inv-loop e-disk-μ-loop
 e-disk-add-min t c =
     let args = c .before .before .before .before .before .args in
     let loop = c .before .before .before .loop in
@@ -107,28 +82,10 @@ e-disk-add-min t c =
       memory-cap (chainOf (args .job)) (loop .d1) (args .d2),
     )
 
-e-disk-cd-at-requires : (t : ℕ) → e-disk-lts.Need-cd-at-requires (
-  e-disk-below t,
-  e-disk.Post,
-  e-mem-reads.Asked,
-  e-mem-reads.Learnt,
-  cd-at-reads.Asked,
-  cd-at-reads.Learnt,
-  min-reads.Asked,
-  min-reads.Learnt,
-) (e-disk-at t) e-disk.Post e-disk-Inv-loop e-disk-μ-loop
+e-disk-cd-at-requires : (t : ℕ) → e-disk-lts.Need-cd-at-requires (e-disk-calls t) (e-disk-at t) e-disk.Post e-disk-Inv-loop e-disk-μ-loop
 e-disk-cd-at-requires t c κs = tt
 
-e-disk-add-min-2 : (t : ℕ) → e-disk-lts.Need-add-min-2 (
-  e-disk-below t,
-  e-disk.Post,
-  e-mem-reads.Asked,
-  e-mem-reads.Learnt,
-  cd-at-reads.Asked,
-  cd-at-reads.Learnt,
-  min-reads.Asked,
-  min-reads.Learnt,
-) (e-disk-at t) e-disk.Post e-disk-Inv-loop e-disk-μ-loop
+e-disk-add-min-2 : (t : ℕ) → e-disk-lts.Need-add-min-2 (e-disk-calls t) (e-disk-at t) e-disk.Post e-disk-Inv-loop e-disk-μ-loop
 e-disk-add-min-2 t c =
     let args = c .before .before .before .before .before .before .args in
     let loop = c .before .before .before .before .loop in
@@ -141,54 +98,18 @@ e-disk-add-min-2 t c =
       c .cd-at .ensures .fits,
     )
 
-e-disk-min-requires : (t : ℕ) → e-disk-lts.Need-min-requires (
-  e-disk-below t,
-  e-disk.Post,
-  e-mem-reads.Asked,
-  e-mem-reads.Learnt,
-  cd-at-reads.Asked,
-  cd-at-reads.Learnt,
-  min-reads.Asked,
-  min-reads.Learnt,
-) (e-disk-at t) e-disk.Post e-disk-Inv-loop e-disk-μ-loop
+e-disk-min-requires : (t : ℕ) → e-disk-lts.Need-min-requires (e-disk-calls t) (e-disk-at t) e-disk.Post e-disk-Inv-loop e-disk-μ-loop
 e-disk-min-requires t c κs = tt
 
-e-disk-add-d1 : (t : ℕ) → e-disk-lts.Need-add-d1 (
-  e-disk-below t,
-  e-disk.Post,
-  e-mem-reads.Asked,
-  e-mem-reads.Learnt,
-  cd-at-reads.Asked,
-  cd-at-reads.Learnt,
-  min-reads.Asked,
-  min-reads.Learnt,
-) (e-disk-at t) e-disk.Post e-disk-Inv-loop e-disk-μ-loop
+e-disk-add-d1 : (t : ℕ) → e-disk-lts.Need-add-d1 (e-disk-calls t) (e-disk-at t) e-disk.Post e-disk-Inv-loop e-disk-μ-loop
 e-disk-add-d1 t c =
     let pre = c .before .before .before .before .before .before .before .pre .1 in
     omega (arith, pre .end, pre .sound .few-tasks)
 
-e-disk-loop-less : (t : ℕ) → e-disk-lts.Need-loop-less (
-  e-disk-below t,
-  e-disk.Post,
-  e-mem-reads.Asked,
-  e-mem-reads.Learnt,
-  cd-at-reads.Asked,
-  cd-at-reads.Learnt,
-  min-reads.Asked,
-  min-reads.Learnt,
-) (e-disk-at t) e-disk.Post e-disk-Inv-loop e-disk-μ-loop
+e-disk-loop-less : (t : ℕ) → e-disk-lts.Need-loop-less (e-disk-calls t) (e-disk-at t) e-disk.Post e-disk-Inv-loop e-disk-μ-loop
 e-disk-loop-less t c = omega arith
 
-e-disk-loop-again : (t : ℕ) → e-disk-lts.Need-loop-again (
-  e-disk-below t,
-  e-disk.Post,
-  e-mem-reads.Asked,
-  e-mem-reads.Learnt,
-  cd-at-reads.Asked,
-  cd-at-reads.Learnt,
-  min-reads.Asked,
-  min-reads.Learnt,
-) (e-disk-at t) e-disk.Post e-disk-Inv-loop e-disk-μ-loop
+e-disk-loop-again : (t : ℕ) → e-disk-lts.Need-loop-again (e-disk-calls t) (e-disk-at t) e-disk.Post e-disk-Inv-loop e-disk-μ-loop
 unfolding chainOf
 e-disk-loop-again t c =
     let loop = c .before .before .before .before .before .loop in (
@@ -197,16 +118,7 @@ e-disk-loop-again t c =
           (min-more _ _ _ _ _ (omega arith) (loop .inv .1)),
     )
 
-e-disk-returns-2 : (t : ℕ) → e-disk-lts.Need-returns-2 (
-  e-disk-below t,
-  e-disk.Post,
-  e-mem-reads.Asked,
-  e-mem-reads.Learnt,
-  cd-at-reads.Asked,
-  cd-at-reads.Learnt,
-  min-reads.Asked,
-  min-reads.Learnt,
-) (e-disk-at t) e-disk.Post e-disk-Inv-loop e-disk-μ-loop
+e-disk-returns-2 : (t : ℕ) → e-disk-lts.Need-returns-2 (e-disk-calls t) (e-disk-at t) e-disk.Post e-disk-Inv-loop e-disk-μ-loop
 e-disk-returns-2 t c =
     let args = c .before .before .before .args in
     let loop = c .before .loop in
@@ -214,16 +126,7 @@ e-disk-returns-2 t c =
     disk-found _ _ _ (omega (arith, c .before .before .if1 .left)) (rw e at (loop .inv .1))
 
 pub +e-disk-spec : {M : Type 1} → statement M
-+e-disk-spec = close μ-e-disk λ t. e-disk-lts.spec (
-  e-disk-below t,
-  e-disk.Post,
-  e-mem-reads.Asked,
-  e-mem-reads.Learnt,
-  cd-at-reads.Asked,
-  cd-at-reads.Learnt,
-  min-reads.Asked,
-  min-reads.Learnt,
-)
++e-disk-spec = close μ-e-disk λ t. e-disk-lts.spec (e-disk-calls t)
     (e-disk-at t)
     e-disk.Post
     e-disk-Inv-loop

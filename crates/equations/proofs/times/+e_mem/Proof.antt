@@ -8,14 +8,17 @@ use Rattle.costs.specs.Stretch.{chainOf}
 use Rattle.equations.specs.Equations.{IsMin, byMemory}
 use Rattle.equations.proofs.Minima.{min-first, min-more}
 use Rattle.equations.proofs.Levels.{memory-cap, verification-cap, memory-start, memory-found}
-use borrow.Fn.Kinds.{In}
+use borrow.Fn.Kinds.{In, Out}
 use borrow.Fn.PlainCycle.{Measures, is, falls, and}
 use Rattle.equations.proofs.times.e_mem.Reads as e-mem
 use Rattle.equations.proofs.times.e_mem.Kinds as e-mem-kinds
 use Rattle.equations.proofs.times.+e_mem.Lts-e_mem as e-mem-lts
 use Rattle.costs.proofs.cm_at.Reads as cm-at-reads
+use Rattle.costs.proofs.cm_at.Kinds as cm-at-kinds
 use Rattle.equations.proofs.times.e_verif.Reads as e-verif-reads
+use Rattle.equations.proofs.times.e_verif.Kinds as e-verif-kinds
 use Rattle.equations.proofs.times.min.Reads as min-reads
+use Rattle.equations.proofs.times.min.Kinds as min-kinds
 use Rattle.equations.proofs.times.+e_mem.{statement}
 use Rattle.equations.proofs.times.+e_mem.Tie.{close}
 
@@ -34,7 +37,13 @@ e-mem-Inv-loop job d1 m2 least₀ m1₀ least m1 = (d1 ≤ m1) × (m1 ≤ m2) ×
 abbrev e-mem-μ-loop : e-mem-lts.MeasureT-loop
 e-mem-μ-loop job d1 m2 least₀ m1₀ least m1 = m2 - m1
 
-e-mem-returns : (t : ℕ) → e-mem-lts.Need-returns (
+-- the contracts that it calls by, its own below the measure t
+abbrev e-mem-calls : ℕ →
+    In 0 e-mem-kinds.ps × Out 0 e-mem-kinds.ps e-mem-kinds.r
+    × In 0 e-verif-kinds.ps × Out 0 e-verif-kinds.ps e-verif-kinds.r
+    × In 0 cm-at-kinds.ps × Out 0 cm-at-kinds.ps cm-at-kinds.r
+    × In 0 min-kinds.ps × Out 0 min-kinds.ps min-kinds.r
+e-mem-calls t = (
   e-mem-below t,
   e-mem.Post,
   e-verif-reads.Asked,
@@ -43,46 +52,21 @@ e-mem-returns : (t : ℕ) → e-mem-lts.Need-returns (
   cm-at-reads.Learnt,
   min-reads.Asked,
   min-reads.Learnt,
-) (e-mem-at t) e-mem.Post e-mem-Inv-loop e-mem-μ-loop
+)
+
+e-mem-returns : (t : ℕ) → e-mem-lts.Need-returns (e-mem-calls t) (e-mem-at t) e-mem.Post e-mem-Inv-loop e-mem-μ-loop
 e-mem-returns t c = rw (c .if1 .taken) (memory-start _ _)
 
-e-mem-loop-holds : (t : ℕ) → e-mem-lts.Need-loop-holds (
-  e-mem-below t,
-  e-mem.Post,
-  e-verif-reads.Asked,
-  e-verif-reads.Learnt,
-  cm-at-reads.Asked,
-  cm-at-reads.Learnt,
-  min-reads.Asked,
-  min-reads.Learnt,
-) (e-mem-at t) e-mem.Post e-mem-Inv-loop e-mem-μ-loop
+e-mem-loop-holds : (t : ℕ) → e-mem-lts.Need-loop-holds (e-mem-calls t) (e-mem-at t) e-mem.Post e-mem-Inv-loop e-mem-μ-loop
 e-mem-loop-holds t c = (omega arith, omega (arith, c .before .pre .1 .start), min-first _ _ _)
 
-e-mem-e-mem-requires : (t : ℕ) → e-mem-lts.Need-e-mem-requires (
-  e-mem-below t,
-  e-mem.Post,
-  e-verif-reads.Asked,
-  e-verif-reads.Learnt,
-  cm-at-reads.Asked,
-  cm-at-reads.Learnt,
-  min-reads.Asked,
-  min-reads.Learnt,
-) (e-mem-at t) e-mem.Post e-mem-Inv-loop e-mem-μ-loop
+e-mem-e-mem-requires : (t : ℕ) → e-mem-lts.Need-e-mem-requires (e-mem-calls t) (e-mem-at t) e-mem.Post e-mem-Inv-loop e-mem-μ-loop
 e-mem-e-mem-requires t c κs =
     let pre = c .before .before .before .pre in
     let inv = c .before .loop .inv in
     (omega (arith, pre .0), record { sound = pre .1 .sound; start = inv .0; end = omega (arith, inv .1, pre .1 .end) })
 
-e-mem-e-verif-requires : (t : ℕ) → e-mem-lts.Need-e-verif-requires (
-  e-mem-below t,
-  e-mem.Post,
-  e-verif-reads.Asked,
-  e-verif-reads.Learnt,
-  cm-at-reads.Asked,
-  cm-at-reads.Learnt,
-  min-reads.Asked,
-  min-reads.Learnt,
-) (e-mem-at t) e-mem.Post e-mem-Inv-loop e-mem-μ-loop
+e-mem-e-verif-requires : (t : ℕ) → e-mem-lts.Need-e-verif-requires (e-mem-calls t) (e-mem-at t) e-mem.Post e-mem-Inv-loop e-mem-μ-loop
 e-mem-e-verif-requires t c κs =
     let args = c .before .before .before .before .args in
     let pre = c .before .before .before .before .pre .1 in
@@ -94,16 +78,7 @@ e-mem-e-verif-requires t c κs =
       time = omega (arith, c .e-mem .ensures .value, memory-cap (chainOf (args .job)) (args .d1) (loop .m1));
     }
 
-e-mem-add-min : (t : ℕ) → e-mem-lts.Need-add-min (
-  e-mem-below t,
-  e-mem.Post,
-  e-verif-reads.Asked,
-  e-verif-reads.Learnt,
-  cm-at-reads.Asked,
-  cm-at-reads.Learnt,
-  min-reads.Asked,
-  min-reads.Learnt,
-) (e-mem-at t) e-mem.Post e-mem-Inv-loop e-mem-μ-loop
+e-mem-add-min : (t : ℕ) → e-mem-lts.Need-add-min (e-mem-calls t) (e-mem-at t) e-mem.Post e-mem-Inv-loop e-mem-μ-loop
 e-mem-add-min t c =
     let args = c .before .before .before .before .before .args in
     let loop = c .before .before .before .loop in
@@ -115,28 +90,10 @@ e-mem-add-min t c =
       verification-cap (chainOf (args .job)) (args .d1) (loop .m1) (c .before .e-mem .result) (args .m2),
     )
 
-e-mem-cm-at-requires : (t : ℕ) → e-mem-lts.Need-cm-at-requires (
-  e-mem-below t,
-  e-mem.Post,
-  e-verif-reads.Asked,
-  e-verif-reads.Learnt,
-  cm-at-reads.Asked,
-  cm-at-reads.Learnt,
-  min-reads.Asked,
-  min-reads.Learnt,
-) (e-mem-at t) e-mem.Post e-mem-Inv-loop e-mem-μ-loop
+e-mem-cm-at-requires : (t : ℕ) → e-mem-lts.Need-cm-at-requires (e-mem-calls t) (e-mem-at t) e-mem.Post e-mem-Inv-loop e-mem-μ-loop
 e-mem-cm-at-requires t c κs = tt
 
-e-mem-add-min-2 : (t : ℕ) → e-mem-lts.Need-add-min-2 (
-  e-mem-below t,
-  e-mem.Post,
-  e-verif-reads.Asked,
-  e-verif-reads.Learnt,
-  cm-at-reads.Asked,
-  cm-at-reads.Learnt,
-  min-reads.Asked,
-  min-reads.Learnt,
-) (e-mem-at t) e-mem.Post e-mem-Inv-loop e-mem-μ-loop
+e-mem-add-min-2 : (t : ℕ) → e-mem-lts.Need-add-min-2 (e-mem-calls t) (e-mem-at t) e-mem.Post e-mem-Inv-loop e-mem-μ-loop
 e-mem-add-min-2 t c =
     let args = c .before .before .before .before .before .before .args in
     let loop = c .before .before .before .before .loop in
@@ -150,54 +107,18 @@ e-mem-add-min-2 t c =
       c .cm-at .ensures .fits,
     )
 
-e-mem-min-requires : (t : ℕ) → e-mem-lts.Need-min-requires (
-  e-mem-below t,
-  e-mem.Post,
-  e-verif-reads.Asked,
-  e-verif-reads.Learnt,
-  cm-at-reads.Asked,
-  cm-at-reads.Learnt,
-  min-reads.Asked,
-  min-reads.Learnt,
-) (e-mem-at t) e-mem.Post e-mem-Inv-loop e-mem-μ-loop
+e-mem-min-requires : (t : ℕ) → e-mem-lts.Need-min-requires (e-mem-calls t) (e-mem-at t) e-mem.Post e-mem-Inv-loop e-mem-μ-loop
 e-mem-min-requires t c κs = tt
 
-e-mem-add-m1 : (t : ℕ) → e-mem-lts.Need-add-m1 (
-  e-mem-below t,
-  e-mem.Post,
-  e-verif-reads.Asked,
-  e-verif-reads.Learnt,
-  cm-at-reads.Asked,
-  cm-at-reads.Learnt,
-  min-reads.Asked,
-  min-reads.Learnt,
-) (e-mem-at t) e-mem.Post e-mem-Inv-loop e-mem-μ-loop
+e-mem-add-m1 : (t : ℕ) → e-mem-lts.Need-add-m1 (e-mem-calls t) (e-mem-at t) e-mem.Post e-mem-Inv-loop e-mem-μ-loop
 e-mem-add-m1 t c =
     let pre = c .before .before .before .before .before .before .before .pre .1 in
     omega (arith, pre .end, pre .sound .few-tasks)
 
-e-mem-loop-less : (t : ℕ) → e-mem-lts.Need-loop-less (
-  e-mem-below t,
-  e-mem.Post,
-  e-verif-reads.Asked,
-  e-verif-reads.Learnt,
-  cm-at-reads.Asked,
-  cm-at-reads.Learnt,
-  min-reads.Asked,
-  min-reads.Learnt,
-) (e-mem-at t) e-mem.Post e-mem-Inv-loop e-mem-μ-loop
+e-mem-loop-less : (t : ℕ) → e-mem-lts.Need-loop-less (e-mem-calls t) (e-mem-at t) e-mem.Post e-mem-Inv-loop e-mem-μ-loop
 e-mem-loop-less t c = omega arith
 
-e-mem-loop-again : (t : ℕ) → e-mem-lts.Need-loop-again (
-  e-mem-below t,
-  e-mem.Post,
-  e-verif-reads.Asked,
-  e-verif-reads.Learnt,
-  cm-at-reads.Asked,
-  cm-at-reads.Learnt,
-  min-reads.Asked,
-  min-reads.Learnt,
-) (e-mem-at t) e-mem.Post e-mem-Inv-loop e-mem-μ-loop
+e-mem-loop-again : (t : ℕ) → e-mem-lts.Need-loop-again (e-mem-calls t) (e-mem-at t) e-mem.Post e-mem-Inv-loop e-mem-μ-loop
 unfolding chainOf
 e-mem-loop-again t c =
     let loop = c .before .before .before .before .before .loop in
@@ -208,16 +129,7 @@ e-mem-loop-again t c =
           (min-more _ _ _ _ _ (loop .inv .0) (loop .inv .2)),
     )
 
-e-mem-returns-2 : (t : ℕ) → e-mem-lts.Need-returns-2 (
-  e-mem-below t,
-  e-mem.Post,
-  e-verif-reads.Asked,
-  e-verif-reads.Learnt,
-  cm-at-reads.Asked,
-  cm-at-reads.Learnt,
-  min-reads.Asked,
-  min-reads.Learnt,
-) (e-mem-at t) e-mem.Post e-mem-Inv-loop e-mem-μ-loop
+e-mem-returns-2 : (t : ℕ) → e-mem-lts.Need-returns-2 (e-mem-calls t) (e-mem-at t) e-mem.Post e-mem-Inv-loop e-mem-μ-loop
 e-mem-returns-2 t c =
     let args = c .before .before .before .args in
     let pre = c .before .before .before .pre .1 in
@@ -226,16 +138,7 @@ e-mem-returns-2 t c =
     memory-found _ _ _ _ (omega (arith, pre .start, c .before .before .if1 .left)) (rw e at (loop .inv .2))
 
 pub +e-mem-spec : {M : Type 1} → statement M
-+e-mem-spec = close μ-e-mem λ t. e-mem-lts.spec (
-  e-mem-below t,
-  e-mem.Post,
-  e-verif-reads.Asked,
-  e-verif-reads.Learnt,
-  cm-at-reads.Asked,
-  cm-at-reads.Learnt,
-  min-reads.Asked,
-  min-reads.Learnt,
-)
++e-mem-spec = close μ-e-mem λ t. e-mem-lts.spec (e-mem-calls t)
     (e-mem-at t)
     e-mem.Post
     e-mem-Inv-loop
