@@ -180,6 +180,7 @@ impl Check<'_> {
             let planned = library::plan(&self.sheet, planned_lent.buffer());
             let (one, other) = ((printed, &printed_lent), (planned, &planned_lent));
             self.tally.same("both engines", &self.sheet, &size, &one, &other);
+            self.tally.printed.both += u64::from(planned.number == 0);
         }
         self.count_printed(size, reference.number);
     }
@@ -188,7 +189,6 @@ impl Check<'_> {
     fn count_printed(&mut self, size: usize, number: u64) {
         let edges = &mut self.tally.printed;
         let n = self.sheet.get(1).map_or(0, |&n| usize::from(n));
-        edges.both += u64::from(number == 0);
         edges.of_8 += u64::from(number == 0 && n == MAX_PRINTED_TASKS);
         edges.of_9 += u64::from(number == 27 && n == MAX_PRINTED_TASKS + 1);
         edges.long_and_short += u64::from(number == 27 && size < n);

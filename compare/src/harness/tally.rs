@@ -57,7 +57,7 @@ pub struct Printed {
     pub of_9: u64,
     /// Sheets refused by 27 though the buffer is short too.
     pub long_and_short: u64,
-    /// Plans of up to 8 tasks, by both engines.
+    /// Plans by the planner beside those by the equations.
     pub both: u64,
 }
 

@@ -1,12 +1,15 @@
 //! Request 104: the equations of section 3.1 of source document 000, asked as
 //! they are printed. Each time comes with the marks that give it; `None` is a
-//! stretch that is not allowed.
+//! stretch that is not allowed. Answers of E_mem are remembered, since E asks
+//! for them each time.
 
 use crate::reference::plan::{bit, Part, Plan};
 use crate::reference::setting;
 use crate::reference::sheet;
 use crate::reference::stretch::{self, Before, Table};
 use crate::types::{Job, Refusal};
+use std::cell::RefCell;
+use std::collections::HashMap;
 
 /// The most tasks that the equations are asked for.
 pub const MAX_PRINTED_TASKS: usize = 8;
@@ -15,6 +18,7 @@ pub const MAX_PRINTED_TASKS: usize = 8;
 struct Page<'a> {
     job: &'a Job,
     table: Table,
+    memory: RefCell<HashMap<(usize, usize), Option<Part>>>,
 }
 
 impl Page<'_> {
@@ -34,28 +38,31 @@ impl Page<'_> {
         if m2 == d1 {
             return Some(Part::EMPTY);
         }
+        if let Some(&known) = self.memory.borrow().get(&(d1, m2)) {
+            return known;
+        }
         let cm = u128::from(self.job.platform.cm);
         let copy = Part { time: cm, mem: bit(m2), ..Part::EMPTY };
-        let by = |m1| {
-            let mem = self.e_mem(d1, m1)?;
-            Some(mem.then(self.e_verif(d1, m1, mem.time, m2)?).then(copy))
-        };
-        (d1..m2).filter_map(by).min()
+        let by = |m1| Some(self.e_mem(d1, m1)?.then(self.e_verif(d1, m1, m2)?).then(copy));
+        let least = (d1..m2).filter_map(by).min();
+        self.memory.borrow_mut().insert((d1, m2), least);
+        least
     }
 
     /// (1) E_verif(d1, m1, v2) = min { E_verif(d1, m1, v1) + E(d1, m1, v1, v2) }.
-    fn e_verif(&self, d1: usize, m1: usize, mem: u128, v2: usize) -> Option<Part> {
+    fn e_verif(&self, d1: usize, m1: usize, v2: usize) -> Option<Part> {
         if v2 == m1 {
             return Some(Part::EMPTY);
         }
-        let by = |v1| Some(self.e_verif(d1, m1, mem, v1)?.then(self.e(d1, m1, mem, v1, v2)?));
+        let by = |v1| Some(self.e_verif(d1, m1, v1)?.then(self.e(d1, m1, v1, v2)?));
         (m1..v2).filter_map(by).min()
     }
 
-    /// (4) E(d1, m1, v1, v2), where E_mem(d1, m1) is `mem`.
-    fn e(&self, d1: usize, m1: usize, mem: u128, v1: usize, v2: usize) -> Option<Part> {
+    /// (4) E(d1, m1, v1, v2).
+    fn e(&self, d1: usize, m1: usize, v1: usize, v2: usize) -> Option<Part> {
         let growths = self.table.get(v1, v2)?;
-        let q = self.e_verif(d1, m1, mem, v1)?.time;
+        let mem = self.e_mem(d1, m1)?.time;
+        let q = self.e_verif(d1, m1, v1)?.time;
         let before = Before { d: d1, m: m1, mem, q };
         let time = stretch::time(&self.job.platform, &growths, &before);
         Some(Part { time, any: bit(v2), ..Part::EMPTY })
@@ -64,7 +71,7 @@ impl Page<'_> {
 
 /// The plan by the equations of a sheet that passed 1 to 8.
 pub fn by_equations(job: &Job) -> Plan {
-    let page = Page { job, table: Table::new(job) };
+    let page = Page { job, table: Table::new(job), memory: RefCell::default() };
     let best = page.e_disk(job.tasks).expect("all marks 3 is allowed");
     Plan { time: best.time, marks: best.marks(job.tasks) }
 }

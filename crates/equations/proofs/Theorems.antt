@@ -22,7 +22,7 @@ use Rattle.costs.proofs.Stretches.{S-rises}
 use Rattle.planning.specs.Promise.{Planned, Plans}
 use Rattle.planning.proofs.Theorems.{plan-once, plan-says}
 use Rattle.equations.specs.Equations.{E-disk}
-use Rattle.equations.specs.Promise.{printedLimit, printedRefusal, Prints, SameAsPlan}
+use Rattle.equations.specs.Promise.{printedLimit, printedRefusal, PlansAsPrinted, SameAsPlan}
 use Rattle.equations.proofs.Answers.{printed-sheet, printed-long, printed-clear}
 
 -- the planner never gives 27
@@ -47,7 +47,7 @@ module _ (s before after : List ℕ) (r : Answer) (p : Plans s before after r) w
       by-checks (inr h) = sheet-other (sym (p .checked h .numbered) ∙ e)
 
 -- the same answer and the same buffer, byte for byte, but for 27
-module _ (s before a b : List ℕ) (r q : Answer) (prints : Prints s before a r) (plans : Plans s before b q) where
+module _ (s before a b : List ℕ) (r q : Answer) (prints : PlansAsPrinted s before a r) (plans : Plans s before b q) where
   same-checks : printedRefusal s ≡ sheetRefusal s → SameAsPlan s a b r q
   same-checks e =
       let p : Plans s before a r = rw e at prints in
@@ -79,7 +79,7 @@ module _ (s before a b : List ℕ) (r q : Answer) (prints : Prints s before a r)
       by-checks (inr h) = same-checks (printed-sheet s h)
 
 -- where there is a result
-module _ (s before after : List ℕ) (r : Answer) (p : Prints s before after r) (e : r .number ≡ 0) where
+module _ (s before after : List ℕ) (r : Answer) (p : PlansAsPrinted s before after r) (e : r .number ≡ 0) where
   abbrev chain : Chain
   chain = chainOf (jobOf s)
 

@@ -30,10 +30,10 @@ unfoldable pub printedRefusal : List ℕ → ℕ
 printedRefusal s = first (printedConditions s)
 
 -- the answer to the sheet s: checks 1 to 8, 27, 11 and 13, else the plan
-abbrev pub Prints : (s before after : List ℕ) → Answer → Type 0
-Prints s before after r = PlansChecked (printedRefusal s) (chainOf (jobOf s)) (jobOf s .tasks) before after r
+abbrev pub PlansAsPrinted : (s before after : List ℕ) → Answer → Type 0
+PlansAsPrinted s before after r = PlansChecked (printedRefusal s) (chainOf (jobOf s)) (jobOf s .tasks) before after r
 
--- the answer r with its buffer, beside the planner's q with its own: the same, but for 27, which is given just to sheets that pass checks 1 to 8 with more tasks
+-- the answer r with its buffer, beside the planner's q with its own: the same, but for 27, which is given just to sheets that pass checks 1 to 8 with more than 8 tasks
 pub record SameAsPlan (s a b : List ℕ) (r q : Answer) : Type 0 where
   pub long : (r .number ≡ Numbers.longChain) ↔ ((sheetRefusal s ≡ 0) × (printedLimit < jobOf s .tasks))
   pub answer : (r .number ≡ Numbers.longChain → ⊥) → r ≡ q

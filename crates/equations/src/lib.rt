@@ -2,7 +2,7 @@
 ghost use Rattle.costs.specs.Stretch.{chainOf};
 ghost use Rattle.planning.specs.Promise.{PlansChain};
 ghost use Rattle.planning.specs.Working.Ready.{ReadyForJob};
-ghost use Rattle.equations.specs.Promise.{Prints};
+ghost use Rattle.equations.specs.Promise.{PlansAsPrinted};
 use job::Job;
 use planning::copy_marks;
 use refusals::Answer;
@@ -24,7 +24,7 @@ use walk::plan_marks;
 pub const PRINTED_LIMIT: usize = 8;
 
 // The plan of a job for a buffer that holds its marks: E_disk(n), and the marks that give it. The time is known to fit before a byte is written.
-fn print_job(job: Job, buffer: &mut [u8]) -> Answer
+fn plan_job(job: Job, buffer: &mut [u8]) -> Answer
     requires { ⌜ ReadyForJob job (now buffer) ⌝ }
     ensures { λ r. ⌜ PlansChain (chainOf job) (job .tasks) (now (buffer .entry)) (now (buffer .exit)) r ⌝ }
 {
@@ -40,7 +40,7 @@ fn print_job(job: Job, buffer: &mut [u8]) -> Answer
 
 // The plan of the sheet, or the first of checks 1 to 8, 27, 11 and 13 that holds.
 pub fn printed(s: &[u8], buffer: &mut [u8]) -> Answer
-    ensures { λ r. ⌜ Prints (now (s .entry)) (now (buffer .entry)) (now (buffer .exit)) r ⌝ }
+    ensures { λ r. ⌜ PlansAsPrinted (now (s .entry)) (now (buffer .entry)) (now (buffer .exit)) r ⌝ }
 {
     let reading = read_job(s);
     if reading.number != 0 {
@@ -55,5 +55,5 @@ pub fn printed(s: &[u8], buffer: &mut [u8]) -> Answer
     if room < n {
         return refused(SHORT_BUFFER);
     }
-    print_job(job, buffer)
+    plan_job(job, buffer)
 }

@@ -5,7 +5,7 @@ ghost use Rattle.sheet.specs.Lookup.{foundOf};
 ghost use Rattle.joining.specs.Join.{Joins};
 ghost use Rattle.pricing.specs.Price.{priceOf};
 ghost use Rattle.planning.specs.Promise.{Plans};
-ghost use Rattle.equations.specs.Promise.{Prints};
+ghost use Rattle.equations.specs.Promise.{PlansAsPrinted};
 ghost use Rattle.following.specs.Start.{startOf};
 ghost use Rattle.logs.specs.Log.{logOf};
 use following::Started;
@@ -60,7 +60,7 @@ pub extern "C" fn pulvanor_plan(sheet: &[u8], buffer: &mut [u8]) -> Answer
 // The plan of a sheet of up to 8 tasks, by the equations as printed.
 #[no_mangle]
 pub extern "C" fn pulvanor_printed(sheet: &[u8], buffer: &mut [u8]) -> Answer
-    ensures { λ r. ⌜ Prints (now (sheet .entry)) (now (buffer .entry)) (now (buffer .exit)) r ⌝ }
+    ensures { λ r. ⌜ PlansAsPrinted (now (sheet .entry)) (now (buffer .entry)) (now (buffer .exit)) r ⌝ }
 {
     equations::printed(sheet, buffer)
 }

@@ -47,8 +47,8 @@ returns-3 c =
     let job = ap (λ (r : JobReading). r .job) (read-job .ensures) ∙ reading-job _ clear in
     rw (c .refused3 .ensures) (short-answer _ _ _ _ (printed-clear _ clear (rw job at (c .before .before .if2 .left))) (rw job at (c .before .if3 .taken)))
 
-print-job-requires : tie.Need-print-job-requires
-print-job-requires c κs =
+plan-job-requires : tie.Need-plan-job-requires
+plan-job-requires c κs =
     let read-job = c .before .before .before .before .before .before .read-job in
     let number = ap (λ (r : JobReading). r .number) (read-job .ensures) ∙ reading-number _ in
     let clear = sym number ∙ c .before .before .before .before .if1 .left in
@@ -64,7 +64,7 @@ returns-4 c =
     let number = ap (λ (r : JobReading). r .number) (read-job .ensures) ∙ reading-number _ in
     let clear = sym number ∙ c .before .before .before .before .before .before .before .if1 .left in
     let job = ap (λ (r : JobReading). r .job) (read-job .ensures) ∙ reading-job _ clear in
-    chain-answer _ _ _ _ _ _ (printed-clear _ clear (rw job at (c .before .before .before .before .before .if2 .left))) (rw job at (c .before .before .before .before .if3 .left)) (rw job at (c .before .before .print-job .ensures))
+    chain-answer _ _ _ _ _ _ (printed-clear _ clear (rw job at (c .before .before .before .before .before .if2 .left))) (rw job at (c .before .before .before .before .if3 .left)) (rw job at (c .before .before .plan-job .ensures))
 
 pub printed-spec : {M : Type 1} → statement M
 printed-spec =
@@ -77,6 +77,6 @@ printed-spec =
     returns-2
     refused-requires-3
     returns-3
-    print-job-requires
+    plan-job-requires
     same-length
     returns-4)

@@ -3,11 +3,11 @@ use Prim.Native.Nat.{ℕ, _≤_, _<_}
 use mathlib.Core.Bool.{cond}
 use lib.Dec.{ltb}
 use Rattle.units.specs.Limits.{none}
-use Rattle.chain.specs.Working.Search.{leastQ, leastM, leastD}
 use Rattle.chain.specs.Working.Walk.{Place, OnWay}
 use Rattle.job.specs.Working.Sound.{Sound}
 use Rattle.job.specs.declared.Job.{Job}
 use Rattle.costs.specs.Stretch.{chainOf}
+use Rattle.equations.specs.Equations.{E-disk, E-mem, E-verif}
 use Rattle.equations.specs.declared.walk.Best.{Best}
 use Rattle.equations.specs.declared.walk.Place as code
 
@@ -23,20 +23,20 @@ pub record ReadyForLastDisk (job : Job) (d2 : ℕ) : Type 0 where
   pub sound : Sound job
   pub some-task : 0 < d2
   pub end : d2 ≤ job .tasks
-  pub in-time : leastD (chainOf job) none d2 < none
+  pub in-time : E-disk (chainOf job) none d2 < none
 
 pub record ReadyForLastMemory (job : Job) (d1 m2 : ℕ) : Type 0 where
   pub sound : Sound job
   pub start : d1 < m2
   pub end : m2 ≤ job .tasks
-  pub in-time : leastM (chainOf job) none d1 m2 < none
+  pub in-time : E-mem (chainOf job) none d1 m2 < none
 
 pub record ReadyForLastVerification (job : Job) (d1 m1 mem v2 : ℕ) : Type 0 where
   pub sound : Sound job
   pub start : m1 < v2
   pub end : v2 ≤ job .tasks
   pub time : mem ≤ none
-  pub in-time : leastQ (chainOf job) none d1 m1 mem v2 < none
+  pub in-time : E-verif (chainOf job) none d1 m1 mem v2 < none
 
 pub record ReadyToStep (job : Job) (w : code.Place) : Type 0 where
   pub sound : Sound job
@@ -45,4 +45,4 @@ pub record ReadyToStep (job : Job) (w : code.Place) : Type 0 where
 
 pub record ReadyForMarks (job : Job) : Type 0 where
   pub sound : Sound job
-  pub in-time : leastD (chainOf job) none (job .tasks) < none
+  pub in-time : E-disk (chainOf job) none (job .tasks) < none

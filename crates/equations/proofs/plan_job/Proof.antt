@@ -1,11 +1,11 @@
--- `equations::print_job` meets its contract. E_disk(n) below the limit is the time of a setting, whose marks are copied; at the limit every setting is too slow.
+-- `equations::plan_job` meets its contract. E_disk(n) below the limit is the time of a setting, whose marks are copied; at the limit every setting is too slow.
 -- Assumes nothing.
 use native.Mathlib.Nat.{le-trans, le-of-eq}
 use Rattle.costs.proofs.Stretches.{S-rises}
 use Rattle.planning.proofs.Promises.{slow-answer, plan-answer}
 use borrow.Author.Needs.{needs}
-use Rattle.equations.proofs.print_job.Statement.{statement}
-use Rattle.equations.proofs.print_job.Tie as tie
+use Rattle.equations.proofs.plan_job.Statement.{statement}
+use Rattle.equations.proofs.plan_job.Tie as tie
 
 e-disk-requires : tie.Need-e-disk-requires
 e-disk-requires c κs = search needs
@@ -42,8 +42,8 @@ returns-2 c =
     rw (c .accepted .ensures)
     (plan-answer _ (S-rises _) _ (pre .sound .some-task) _ _ _ _ (pre .room) (plan-marks .ensures) (copy-marks .ensures) (e-disk .ensures .value) (if1 .left))
 
-pub print-job-spec : {M : Type 1} → statement M
-print-job-spec =
+pub plan-job-spec : {M : Type 1} → statement M
+plan-job-spec =
     tie.close
     (tie.spec
     e-disk-requires
