@@ -126,9 +126,9 @@ struct pulvanor_answer pulvanor_price(const uint8_t *sheet, size_t sheet_length,
 struct pulvanor_answer pulvanor_plan(const uint8_t *sheet, size_t sheet_length, uint8_t *buffer, size_t buffer_length);
 
 /* The same by the equations of section 3.1 of source document 000 as printed, which ask each other and keep
-   nothing: for a sheet of up to 8 tasks the number, the time and every byte of the buffer are those of
-   pulvanor_plan. Refusals 1 to 8, 27 (more than 8 tasks), 11 and 13, in this order. The work grows more than
-   threefold with each task, to some 10 milliseconds for 8. */
+   nothing. Refusals 1 to 8, 27 (more than 8 tasks), 11 and 13, in this order. But for 27 the number, the time
+   and every byte of the buffer are those of pulvanor_plan; a refusal, 27 too, has time 0 and writes no byte.
+   The work grows more than threefold with each task, to some 10 milliseconds for 8. */
 struct pulvanor_answer pulvanor_printed(const uint8_t *sheet, size_t sheet_length, uint8_t *buffer, size_t buffer_length);
 
 /* The fresh run of the sheet under these marks. Refusals 1 to 10. */

@@ -39,8 +39,13 @@ fn equations_agree_with_trying() {
         if sheet::check_values(&job).is_err() || compared[job.tasks] == 10 {
             continue;
         }
-        assert_eq!(printed::by_equations(&job), plan::by_trying(&job));
-        compared[job.tasks] += 1;
+        let (tried, asked) = (plan::by_trying(&job), printed::by_equations(&job));
+        if tried.time <= MAX_TIME {
+            assert_eq!(tried, asked);
+            compared[job.tasks] += 1;
+        } else {
+            assert!(asked.time > MAX_TIME);
+        }
     }
 }
 

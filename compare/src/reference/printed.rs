@@ -1,7 +1,7 @@
 //! Request 104: the equations of section 3.1 of source document 000, asked as
-//! they are printed. Each time comes with the marks that give it; `None` is a
-//! stretch that is not allowed. Answers of E_mem are remembered, since E asks
-//! for them each time.
+//! they are printed. Each time comes with the marks that give it; `None` says
+//! that no allowed stretch leads there. Answers of E_mem are remembered, since
+//! E asks for them each time.
 
 use crate::reference::plan::{bit, Part, Plan};
 use crate::reference::setting;

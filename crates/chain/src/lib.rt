@@ -21,7 +21,7 @@ pub struct Recoveries {
     pub memory: u64,
 }
 
-// S over an allowed stretch, where q is Q'. A time above 2^34 is dropped before it comes here, so that no product wraps.
+// S over an allowed stretch, where q is Q'. No time above 2^34 comes here, so that no product wraps.
 pub fn stretch_time(f: Factors, r: Recoveries, q: u64) -> u64
     requires { ⌜ ReadyForStretch f r q ⌝ }
     ensures { λ t. ⌜ StretchTime f r q t ⌝ }

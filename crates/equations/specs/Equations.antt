@@ -43,7 +43,7 @@ pub record Equations (c : Chain) (N : ℕ) (E-disk : (d2 : ℕ) → ℕ) (E-mem 
   pub stretch : (d1 m1 v1 v2 : ℕ) → d1 ≤ m1 → m1 ≤ v1 → v1 < v2
       → E d1 m1 v1 v2 ≡ cond (c .allowed v1 v2) (c .S v1 v2 m1 d1 (E-verif d1 m1 v1) (E-mem d1 m1)) N
 
--- The four that keep them: the least times that the plan's theorem knows.
+-- The four that keep them, with E_mem(d_1, m_1) put in for mem: the least times that the plan's theorem knows.
 module _ (c : Chain) (N : ℕ) where
   -- E_disk(d_2)
   abbrev pub E-disk : (d2 : ℕ) → ℕ

@@ -37,7 +37,7 @@ fn min(a: u64, b: u64) -> u64
     b
 }
 
-// E_disk(d2) = min { E_disk(d1) + E_mem(d1, d2) + C_D }, over 0 <= d1 < d2.
+// E_disk(0) = 0, and E_disk(d2) = min { E_disk(d1) + E_mem(d1, d2) + C_D }, over 0 <= d1 < d2.
 pub fn e_disk(job: Job, d2: usize) -> u64
     requires { ⌜ ReadyForDisk job d2 ⌝ }
     ensures { λ r. ⌜ DiskEquation (chainOf job) none d2 r ⌝ }
@@ -54,7 +54,7 @@ pub fn e_disk(job: Job, d2: usize) -> u64
     least
 }
 
-// E_mem(d1, m2) = min { E_mem(d1, m1) + E_verif(d1, m1, m2) + C_M }, over d1 <= m1 < m2.
+// E_mem(d1, d1) = 0, and E_mem(d1, m2) = min { E_mem(d1, m1) + E_verif(d1, m1, m2) + C_M }, over d1 <= m1 < m2.
 pub fn e_mem(job: Job, d1: usize, m2: usize) -> u64
     requires { ⌜ ReadyForMemory job d1 m2 ⌝ }
     ensures { λ r. ⌜ MemoryEquation (chainOf job) none d1 m2 r ⌝ }
@@ -72,6 +72,7 @@ pub fn e_mem(job: Job, d1: usize, m2: usize) -> u64
     least
 }
 
+// E_verif(d1, m1, m1) = 0, and
 // (1)  E_verif(d1, m1, v2) = min { E_verif(d1, m1, v1) + E(d1, m1, v1, v2) }, over m1 <= v1 < v2.
 pub fn e_verif(job: Job, d1: usize, m1: usize, mem: u64, v2: usize) -> u64
     requires { ⌜ ReadyForVerification job m1 mem v2 ⌝ }
@@ -105,9 +106,10 @@ fn growths(job: Job, v1: usize, v2: usize) -> Factors
 // (4)  E(d1, m1, v1, v2) = e^(λ_s W) ((e^(λ_f W) - 1) / λ_f + V*)
 //                        + e^(λ_s W) (e^(λ_f W) - 1) (R_D + E_mem(d1, m1))
 //                        + (e^((λ_s + λ_f) W) - 1) E_verif(d1, m1, v1)
-//                        + (e^(λ_s W) - 1) R_M
-// In units of 2^-24 e^(λ_s W) is f.silent and e^((λ_s + λ_f) W) f.both, which is 0 where the stretch is not allowed; the first part is f.work. Each part is rounded
-// up. R_D and R_M are what going back to d1 and to m1 costs: R_D has the refill of memory in it, and both are 0 at the start.
+//                        + (e^(λ_s W) - 1) R_M,
+// which is (2) with (3) put in. In units of 2^-24 e^(λ_s W) is f.silent and e^((λ_s + λ_f) W) is f.both, so that e^(λ_s W) (e^(λ_f W) - 1) is f.both - f.silent; the
+// first part is f.work. All is rounded as document 01 says, each part up. f.both is 0 where the stretch is not allowed. R_D and R_M are what going back to d1 and to
+// m1 costs: R_D has the refill of memory in it, and both are 0 at the start.
 pub fn e(job: Job, d1: usize, m1: usize, mem: u64, v1: usize, v2: usize) -> u64
     requires { ⌜ ReadyForE job m1 mem v1 v2 ⌝ }
     ensures { λ r. ⌜ (r ≡ E (chainOf job) none d1 m1 mem v1 v2) × (r ≤ stretchCap) ⌝ }
