@@ -31,7 +31,10 @@ array-share-prefix-text : tie.Need-array-share-prefix-text
 array-share-prefix-text c = omega (arith, c .digits .ensures .long, c .before .before .before .before .before .before .before .pre (c .before .before .before .before .before .if1 .left))
 
 slice-aggregate-line : tie.Need-slice-aggregate-line
-slice-aggregate-line c = sym (length-take-le _ _ (omega (arith, c .before .digits .ensures .long, c .before .before .before .before .before .before .before .before .pre (c .before .before .before .before .before .before .if1 .left))))
+slice-aggregate-line c =
+    let pre = c .before .before .before .before .before .before .before .before .pre in
+    let if1 = c .before .before .before .before .before .before .if1 in
+    sym (length-take-le _ _ (omega (arith, c .before .digits .ensures .long, pre (if1 .left))))
 
 line-requires : tie.Need-line-requires
 line-requires c κs = search needs

@@ -64,7 +64,8 @@ returns-4 c =
     let number = ap (λ (r : JobReading). r .number) (read-job .ensures) ∙ reading-number _ in
     let clear = sym number ∙ c .before .before .before .before .before .before .before .if1 .left in
     let job = ap (λ (r : JobReading). r .job) (read-job .ensures) ∙ reading-job _ clear in
-    chain-answer _ _ _ _ _ _ (printed-clear _ clear (rw job at (c .before .before .before .before .before .if2 .left))) (rw job at (c .before .before .before .before .if3 .left)) (rw job at (c .before .before .plan-job .ensures))
+    let passed = printed-clear _ clear (rw job at (c .before .before .before .before .before .if2 .left)) in
+    chain-answer _ _ _ _ _ _ passed (rw job at (c .before .before .before .before .if3 .left)) (rw job at (c .before .before .plan-job .ensures))
 
 pub printed-spec : {M : Type 1} → statement M
 printed-spec =

@@ -90,9 +90,11 @@ e-sub-rounded-up : (t : ℕ) → e-lts.Need-sub-rounded-up (e-calls t) (e-at t) 
 e-sub-rounded-up t c =
     let args = c .before .before .before .before .args in
     let pre = c .before .before .before .before .pre .1 in
+    let growths = c .before .before .before .growths in
+    let if1 = c .before .if1 in
     let ready =
-    stretch-ready (args .job) (pre .stretch .sound) (args .d1) (args .m1) (args .mem) (args .v1) (args .v2) (pre .stretch .end) _ (c .before .before .before .growths .ensures)
-    (c .before .if1 .left) (pre .time) 0 (omega arith)
+    stretch-ready (args .job) (pre .stretch .sound) (args .d1) (args .m1) (args .mem) (args .v1) (args .v2) (pre .stretch .end) _ (growths .ensures) (if1 .left)
+    (pre .time) 0 (omega arith)
     in
     ready .factors .both
 
@@ -108,9 +110,11 @@ e-mul-rounded-up : (t : ℕ) → e-lts.Need-mul-rounded-up (e-calls t) (e-at t) 
 e-mul-rounded-up t c =
     let args = c .before .before .before .before .before .args in
     let pre = c .before .before .before .before .before .pre .1 in
+    let growths = c .before .before .before .before .growths in
+    let if1 = c .before .before .if1 in
     let ready =
-    stretch-ready (args .job) (pre .stretch .sound) (args .d1) (args .m1) (args .mem) (args .v1) (args .v2) (pre .stretch .end) _ (c .before .before .before .before .growths .ensures)
-    (c .before .before .if1 .left) (pre .time) 0 (omega arith)
+    stretch-ready (args .job) (pre .stretch .sound) (args .d1) (args .m1) (args .mem) (args .v1) (args .v2) (pre .stretch .end) _ (growths .ensures) (if1 .left)
+    (pre .time) 0 (omega arith)
     in
     rw (c .rd-at .ensures .value) (omega (arith, disk-product _ _ _ ready))
 
@@ -118,9 +122,11 @@ e-rounded-up-requires : (t : ℕ) → e-lts.Need-rounded-up-requires (e-calls t)
 e-rounded-up-requires t c κs =
     let args = c .before .before .before .before .before .args in
     let pre = c .before .before .before .before .before .pre .1 in
+    let growths = c .before .before .before .before .growths in
+    let if1 = c .before .before .if1 in
     let ready =
-    stretch-ready (args .job) (pre .stretch .sound) (args .d1) (args .m1) (args .mem) (args .v1) (args .v2) (pre .stretch .end) _ (c .before .before .before .before .growths .ensures)
-    (c .before .before .if1 .left) (pre .time) 0 (omega arith)
+    stretch-ready (args .job) (pre .stretch .sound) (args .d1) (args .m1) (args .mem) (args .v1) (args .v2) (pre .stretch .end) _ (growths .ensures) (if1 .left)
+    (pre .time) 0 (omega arith)
     in
     rw (c .rd-at .ensures .value) (omega (arith, disk-product _ _ _ ready))
 
@@ -128,9 +134,11 @@ e-add-result : (t : ℕ) → e-lts.Need-add-result (e-calls t) (e-at t) e.Post
 e-add-result t c =
     let args = c .before .before .before .before .before .before .before .args in
     let pre = c .before .before .before .before .before .before .before .pre .1 in
+    let growths = c .before .before .before .before .before .before .growths in
+    let if1 = c .before .before .before .before .if1 in
     let ready =
-    stretch-ready (args .job) (pre .stretch .sound) (args .d1) (args .m1) (args .mem) (args .v1) (args .v2) (pre .stretch .end) _ (c .before .before .before .before .before .before .growths .ensures)
-    (c .before .before .before .before .if1 .left) (pre .time) 0 (omega arith)
+    stretch-ready (args .job) (pre .stretch .sound) (args .d1) (args .m1) (args .mem) (args .v1) (args .v2) (pre .stretch .end) _ (growths .ensures) (if1 .left)
+    (pre .time) 0 (omega arith)
     in
     rw (c .before .rounded-up .ensures, c .before .before .rd-at .ensures .value) (omega (arith, ready .factors .work, disk-part _ _ _ ready))
 
@@ -138,9 +146,11 @@ e-sub-rounded-up-2 : (t : ℕ) → e-lts.Need-sub-rounded-up-2 (e-calls t) (e-at
 e-sub-rounded-up-2 t c =
     let args = c .before .before .before .before .before .before .before .before .args in
     let pre = c .before .before .before .before .before .before .before .before .pre .1 in
+    let growths = c .before .before .before .before .before .before .before .growths in
+    let if1 = c .before .before .before .before .before .if1 in
     let ready =
-    stretch-ready (args .job) (pre .stretch .sound) (args .d1) (args .m1) (args .mem) (args .v1) (args .v2) (pre .stretch .end) _ (c .before .before .before .before .before .before .before .growths .ensures)
-    (c .before .before .before .before .before .if1 .left) (pre .time) 0 (omega arith)
+    stretch-ready (args .job) (pre .stretch .sound) (args .d1) (args .m1) (args .mem) (args .v1) (args .v2) (pre .stretch .end) _ (growths .ensures) (if1 .left)
+    (pre .time) 0 (omega arith)
     in
     omega (arith, ready .factors .silent, ready .factors .both)
 
@@ -160,9 +170,13 @@ e-mul-rounded-up-2 : (t : ℕ) → e-lts.Need-mul-rounded-up-2 (e-calls t) (e-at
 e-mul-rounded-up-2 t c =
     let args = c .before .before .before .before .before .before .before .before .before .args in
     let pre = c .before .before .before .before .before .before .before .before .before .pre .1 in
+    let growths = c .before .before .before .before .before .before .before .before .growths in
+    let if1 = c .before .before .before .before .before .before .if1 in
+    let e-verif = c .e-verif in
+    let again = verification-cap (chainOf (args .job)) (args .d1) (args .m1) (args .mem) (args .v1) in
     let ready =
-    stretch-ready (args .job) (pre .stretch .sound) (args .d1) (args .m1) (args .mem) (args .v1) (args .v2) (pre .stretch .end) _ (c .before .before .before .before .before .before .before .before .growths .ensures)
-    (c .before .before .before .before .before .before .if1 .left) (pre .time) (c .e-verif .result) (omega (arith, c .e-verif .ensures .value, verification-cap (chainOf (args .job)) (args .d1) (args .m1) (args .mem) (args .v1)))
+    stretch-ready (args .job) (pre .stretch .sound) (args .d1) (args .m1) (args .mem) (args .v1) (args .v2) (pre .stretch .end) _ (growths .ensures) (if1 .left)
+    (pre .time) (e-verif .result) (omega (arith, e-verif .ensures .value, again))
     in
     omega (arith, again-product _ _ _ ready)
 
@@ -170,9 +184,13 @@ e-rounded-up-requires-2 : (t : ℕ) → e-lts.Need-rounded-up-requires-2 (e-call
 e-rounded-up-requires-2 t c κs =
     let args = c .before .before .before .before .before .before .before .before .before .args in
     let pre = c .before .before .before .before .before .before .before .before .before .pre .1 in
+    let growths = c .before .before .before .before .before .before .before .before .growths in
+    let if1 = c .before .before .before .before .before .before .if1 in
+    let e-verif = c .e-verif in
+    let again = verification-cap (chainOf (args .job)) (args .d1) (args .m1) (args .mem) (args .v1) in
     let ready =
-    stretch-ready (args .job) (pre .stretch .sound) (args .d1) (args .m1) (args .mem) (args .v1) (args .v2) (pre .stretch .end) _ (c .before .before .before .before .before .before .before .before .growths .ensures)
-    (c .before .before .before .before .before .before .if1 .left) (pre .time) (c .e-verif .result) (omega (arith, c .e-verif .ensures .value, verification-cap (chainOf (args .job)) (args .d1) (args .m1) (args .mem) (args .v1)))
+    stretch-ready (args .job) (pre .stretch .sound) (args .d1) (args .m1) (args .mem) (args .v1) (args .v2) (pre .stretch .end) _ (growths .ensures) (if1 .left)
+    (pre .time) (e-verif .result) (omega (arith, e-verif .ensures .value, again))
     in
     omega (arith, again-product _ _ _ ready)
 
@@ -180,20 +198,28 @@ e-add-result-2 : (t : ℕ) → e-lts.Need-add-result-2 (e-calls t) (e-at t) e.Po
 e-add-result-2 t c =
     let args = c .before .before .before .before .before .before .before .before .before .before .args in
     let pre = c .before .before .before .before .before .before .before .before .before .before .pre .1 in
+    let growths = c .before .before .before .before .before .before .before .before .before .growths in
+    let if1 = c .before .before .before .before .before .before .before .if1 in
+    let e-verif = c .before .e-verif in
+    let again = verification-cap (chainOf (args .job)) (args .d1) (args .m1) (args .mem) (args .v1) in
     let ready =
-    stretch-ready (args .job) (pre .stretch .sound) (args .d1) (args .m1) (args .mem) (args .v1) (args .v2) (pre .stretch .end) _ (c .before .before .before .before .before .before .before .before .before .growths .ensures)
-    (c .before .before .before .before .before .before .before .if1 .left) (pre .time) (c .before .e-verif .result) (omega (arith, c .before .e-verif .ensures .value, verification-cap (chainOf (args .job)) (args .d1) (args .m1) (args .mem) (args .v1)))
+    stretch-ready (args .job) (pre .stretch .sound) (args .d1) (args .m1) (args .mem) (args .v1) (args .v2) (pre .stretch .end) _ (growths .ensures) (if1 .left)
+    (pre .time) (e-verif .result) (omega (arith, e-verif .ensures .value, again))
     in
-    rw (c .before .before .before .before .rounded-up .ensures, c .before .before .before .before .before .rd-at .ensures .value, c .rounded-up2 .ensures)
+    let rounded-up = c .before .before .before .before .rounded-up in
+    let rd-at = c .before .before .before .before .before .rd-at in
+    rw (rounded-up .ensures, rd-at .ensures .value, c .rounded-up2 .ensures)
     (omega (arith, ready .factors .work, disk-part _ _ _ ready, again-part _ _ _ ready))
 
 e-sub-rounded-up-3 : (t : ℕ) → e-lts.Need-sub-rounded-up-3 (e-calls t) (e-at t) e.Post
 e-sub-rounded-up-3 t c =
     let args = c .before .before .before .before .before .before .before .before .before .before .before .args in
     let pre = c .before .before .before .before .before .before .before .before .before .before .before .pre .1 in
+    let growths = c .before .before .before .before .before .before .before .before .before .before .growths in
+    let if1 = c .before .before .before .before .before .before .before .before .if1 in
     let ready =
-    stretch-ready (args .job) (pre .stretch .sound) (args .d1) (args .m1) (args .mem) (args .v1) (args .v2) (pre .stretch .end) _ (c .before .before .before .before .before .before .before .before .before .before .growths .ensures)
-    (c .before .before .before .before .before .before .before .before .if1 .left) (pre .time) 0 (omega arith)
+    stretch-ready (args .job) (pre .stretch .sound) (args .d1) (args .m1) (args .mem) (args .v1) (args .v2) (pre .stretch .end) _ (growths .ensures) (if1 .left)
+    (pre .time) 0 (omega arith)
     in
     ready .factors .silent
 
@@ -204,9 +230,11 @@ e-mul-rounded-up-3 : (t : ℕ) → e-lts.Need-mul-rounded-up-3 (e-calls t) (e-at
 e-mul-rounded-up-3 t c =
     let args = c .before .before .before .before .before .before .before .before .before .before .before .before .args in
     let pre = c .before .before .before .before .before .before .before .before .before .before .before .before .pre .1 in
+    let growths = c .before .before .before .before .before .before .before .before .before .before .before .growths in
+    let if1 = c .before .before .before .before .before .before .before .before .before .if1 in
     let ready =
-    stretch-ready (args .job) (pre .stretch .sound) (args .d1) (args .m1) (args .mem) (args .v1) (args .v2) (pre .stretch .end) _ (c .before .before .before .before .before .before .before .before .before .before .before .growths .ensures)
-    (c .before .before .before .before .before .before .before .before .before .if1 .left) (pre .time) 0 (omega arith)
+    stretch-ready (args .job) (pre .stretch .sound) (args .d1) (args .m1) (args .mem) (args .v1) (args .v2) (pre .stretch .end) _ (growths .ensures) (if1 .left)
+    (pre .time) 0 (omega arith)
     in
     rw (c .rm-at .ensures .value) (omega (arith, memory-product _ _ _ ready))
 
@@ -214,9 +242,11 @@ e-rounded-up-requires-3 : (t : ℕ) → e-lts.Need-rounded-up-requires-3 (e-call
 e-rounded-up-requires-3 t c κs =
     let args = c .before .before .before .before .before .before .before .before .before .before .before .before .args in
     let pre = c .before .before .before .before .before .before .before .before .before .before .before .before .pre .1 in
+    let growths = c .before .before .before .before .before .before .before .before .before .before .before .growths in
+    let if1 = c .before .before .before .before .before .before .before .before .before .if1 in
     let ready =
-    stretch-ready (args .job) (pre .stretch .sound) (args .d1) (args .m1) (args .mem) (args .v1) (args .v2) (pre .stretch .end) _ (c .before .before .before .before .before .before .before .before .before .before .before .growths .ensures)
-    (c .before .before .before .before .before .before .before .before .before .if1 .left) (pre .time) 0 (omega arith)
+    stretch-ready (args .job) (pre .stretch .sound) (args .d1) (args .m1) (args .mem) (args .v1) (args .v2) (pre .stretch .end) _ (growths .ensures) (if1 .left)
+    (pre .time) 0 (omega arith)
     in
     rw (c .rm-at .ensures .value) (omega (arith, memory-product _ _ _ ready))
 
@@ -224,11 +254,20 @@ e-add-result-3 : (t : ℕ) → e-lts.Need-add-result-3 (e-calls t) (e-at t) e.Po
 e-add-result-3 t c =
     let args = c .before .before .before .before .before .before .before .before .before .before .before .before .before .args in
     let pre = c .before .before .before .before .before .before .before .before .before .before .before .before .before .pre .1 in
+    let growths = c .before .before .before .before .before .before .before .before .before .before .before .before .growths in
+    let if1 = c .before .before .before .before .before .before .before .before .before .before .if1 in
+    let e-verif = c .before .before .before .before .e-verif in
+    let again = verification-cap (chainOf (args .job)) (args .d1) (args .m1) (args .mem) (args .v1) in
     let ready =
-    stretch-ready (args .job) (pre .stretch .sound) (args .d1) (args .m1) (args .mem) (args .v1) (args .v2) (pre .stretch .end) _ (c .before .before .before .before .before .before .before .before .before .before .before .before .growths .ensures)
-    (c .before .before .before .before .before .before .before .before .before .before .if1 .left) (pre .time) (c .before .before .before .before .e-verif .result) (omega (arith, c .before .before .before .before .e-verif .ensures .value, verification-cap (chainOf (args .job)) (args .d1) (args .m1) (args .mem) (args .v1)))
+    stretch-ready (args .job) (pre .stretch .sound) (args .d1) (args .m1) (args .mem) (args .v1) (args .v2) (pre .stretch .end) _ (growths .ensures) (if1 .left)
+    (pre .time) (e-verif .result) (omega (arith, e-verif .ensures .value, again))
     in
-    rw (c .before .before .before .before .before .before .before .rounded-up .ensures, c .before .before .before .before .before .before .before .before .rd-at .ensures .value, c .before .before .before .rounded-up2 .ensures, c .rounded-up3 .ensures, c .before .rm-at .ensures .value)
+    let rounded-up = c .before .before .before .before .before .before .before .rounded-up in
+    let rounded-up2 = c .before .before .before .rounded-up2 in
+    let rounded-up3 = c .rounded-up3 in
+    let rd-at = c .before .before .before .before .before .before .before .before .rd-at in
+    let rm-at = c .before .rm-at in
+    rw (rounded-up .ensures, rd-at .ensures .value, rounded-up2 .ensures, rounded-up3 .ensures, rm-at .ensures .value)
     (omega (arith, ready .factors .work, disk-part _ _ _ ready, again-part _ _ _ ready, memory-part _ _ _ ready))
 
 e-returns-2 : (t : ℕ) → e-lts.Need-returns-2 (e-calls t) (e-at t) e.Post
@@ -236,14 +275,24 @@ unfolding stretchOf
 e-returns-2 t c =
     let args = c .before .before .before .before .before .before .before .before .before .before .before .before .before .args in
     let pre = c .before .before .before .before .before .before .before .before .before .before .before .before .before .pre .1 in
+    let growths = c .before .before .before .before .before .before .before .before .before .before .before .before .growths in
+    let if1 = c .before .before .before .before .before .before .before .before .before .before .if1 in
+    let e-verif = c .before .before .before .before .e-verif in
+    let again = verification-cap (chainOf (args .job)) (args .d1) (args .m1) (args .mem) (args .v1) in
     let ready =
-    stretch-ready (args .job) (pre .stretch .sound) (args .d1) (args .m1) (args .mem) (args .v1) (args .v2) (pre .stretch .end) _ (c .before .before .before .before .before .before .before .before .before .before .before .before .growths .ensures)
-    (c .before .before .before .before .before .before .before .before .before .before .if1 .left) (pre .time) (c .before .before .before .before .e-verif .result) (omega (arith, c .before .before .before .before .e-verif .ensures .value, verification-cap (chainOf (args .job)) (args .d1) (args .m1) (args .mem) (args .v1)))
+    stretch-ready (args .job) (pre .stretch .sound) (args .d1) (args .m1) (args .mem) (args .v1) (args .v2) (pre .stretch .end) _ (growths .ensures) (if1 .left)
+    (pre .time) (e-verif .result) (omega (arith, e-verif .ensures .value, again))
     in
-    rw (c .before .before .before .before .before .before .before .rounded-up .ensures, c .before .before .before .before .before .before .before .before .rd-at .ensures .value, c .before .before .before .rounded-up2 .ensures, c .rounded-up3 .ensures, c .before .rm-at .ensures .value) (
-      rw (c .before .before .before .before .e-verif .ensures .value)
-          (stretch-some (args .job) (pre .stretch .sound) (args .d1) (args .m1) (args .mem) (args .v1) (args .v2) (pre .stretch .end) _ (c .before .before .before .before .before .before .before .before .before .before .before .before .growths .ensures)
-          (c .before .before .before .before .before .before .before .before .before .before .if1 .left)),
+    let rounded-up = c .before .before .before .before .before .before .before .rounded-up in
+    let rounded-up2 = c .before .before .before .rounded-up2 in
+    let rounded-up3 = c .rounded-up3 in
+    let rd-at = c .before .before .before .before .before .before .before .before .rd-at in
+    let rm-at = c .before .rm-at in
+    let whole =
+    stretch-some (args .job) (pre .stretch .sound) (args .d1) (args .m1) (args .mem) (args .v1) (args .v2) (pre .stretch .end) _ (growths .ensures) (if1 .left)
+    in
+    rw (rounded-up .ensures, rd-at .ensures .value, rounded-up2 .ensures, rounded-up3 .ensures, rm-at .ensures .value) (
+      rw (e-verif .ensures .value) whole,
       omega (arith, ready .factors .work, disk-part _ _ _ ready, again-part _ _ _ ready, memory-part _ _ _ ready),
     )
 

@@ -75,7 +75,8 @@ loop-again c =
     let loop = c .before .before .before .before .before .loop in (
       omega (arith, loop .inv .0),
       omega arith,
-      rw (c .offer .ensures, c .before .before .before .e-disk .ensures .value, c .before .before .e-mem .ensures .value, c .before .cd-at .ensures .value) (sought-more _ _ _ _ _ (loop .inv .0) (loop .inv .2)),
+      rw (c .offer .ensures, c .before .before .before .e-disk .ensures .value, c .before .before .e-mem .ensures .value, c .before .cd-at .ensures .value)
+          (sought-more _ _ _ _ _ (loop .inv .0) (loop .inv .2)),
     )
 
 returns : tie.Need-returns Inv-loop μ-loop

@@ -83,7 +83,8 @@ loop-again c =
     let loop = c .before .before .before .before .before .loop in (
       omega (arith, loop .inv .0),
       omega arith,
-      rw (c .offer .ensures, c .before .before .e-verif .ensures .value, c .before .before .before .e-mem .ensures .value, c .before .cm-at .ensures .value) (sought-more _ _ _ _ _ (loop .inv .0) (loop .inv .2)),
+      rw (c .offer .ensures, c .before .before .e-verif .ensures .value, c .before .before .before .e-mem .ensures .value, c .before .cm-at .ensures .value)
+          (sought-more _ _ _ _ _ (loop .inv .0) (loop .inv .2)),
     )
 
 returns : tie.Need-returns Inv-loop μ-loop

@@ -30,7 +30,9 @@ last-verification-requires c κs =
 returns : tie.Need-returns
 returns c =
     let on = c .before .before .before .pre .on-way in
-    let at = verification-earliest _ _ _ _ _ _ (on .m-v) (on .verified) (rw (c .before .before .e-mem .ensures .value) at (c .before .last-verification .ensures)) in
+    let e-mem = c .before .before .e-mem in
+    let last = c .before .last-verification in
+    let at = verification-earliest _ _ _ _ _ _ (on .m-v) (on .verified) (rw (e-mem .ensures .value) at (last .ensures)) in
     before-mark _ _ _ on _ at (c .if1 .taken)
 
 last-memory-requires : tie.Need-last-memory-requires
@@ -47,9 +49,11 @@ last-memory-requires c κs =
 returns-2 : tie.Need-returns-2
 returns-2 c =
     let on = c .before .before .before .before .before .pre .on-way in
-    let at = verification-earliest _ _ _ _ _ _ (on .m-v) (on .verified) (rw (c .before .before .before .before .e-mem .ensures .value) at (c .before .before .before .last-verification .ensures)) in
-    let last = memory-earliest _ _ _ _ _ (omega (arith, on .d-m, c .before .if2 .taken)) (on .in-memory) (c .last-memory .ensures) in
-    rw last (before-memory _ _ _ on (sym at ∙ c .before .before .if1 .left) (c .before .if2 .taken))
+    let e-mem = c .before .before .before .before .e-mem in
+    let last = c .before .before .before .last-verification in
+    let at = verification-earliest _ _ _ _ _ _ (on .m-v) (on .verified) (rw (e-mem .ensures .value) at (last .ensures)) in
+    let copy = memory-earliest _ _ _ _ _ (omega (arith, on .d-m, c .before .if2 .taken)) (on .in-memory) (c .last-memory .ensures) in
+    rw copy (before-memory _ _ _ on (sym at ∙ c .before .before .if1 .left) (c .before .if2 .taken))
 
 at-disk-requires : tie.Need-at-disk-requires
 at-disk-requires c κs =
@@ -65,13 +69,17 @@ at-disk-requires c κs =
 returns-3 : tie.Need-returns-3
 returns-3 c =
     let on = c .before .before .before .before .before .before .pre .on-way in
-    let at = verification-earliest _ _ _ _ _ _ (on .m-v) (on .verified) (rw (c .before .before .before .before .before .e-mem .ensures .value) at (c .before .before .before .before .last-verification .ensures)) in
+    let e-mem = c .before .before .before .before .before .e-mem in
+    let last = c .before .before .before .before .last-verification in
+    let at = verification-earliest _ _ _ _ _ _ (on .m-v) (on .verified) (rw (e-mem .ensures .value) at (last .ensures)) in
     rw (c .at-disk .ensures) (before-disk _ _ _ on (sym at ∙ c .before .before .before .if1 .left) (c .before .before .if2 .left) (c .before .if3 .taken))
 
 returns-4 : tie.Need-returns-4
 returns-4 c =
     let on = c .before .before .before .before .before .pre .on-way in
-    let at = verification-earliest _ _ _ _ _ _ (on .m-v) (on .verified) (rw (c .before .before .before .before .e-mem .ensures .value) at (c .before .before .before .last-verification .ensures)) in
+    let e-mem = c .before .before .before .before .e-mem in
+    let last = c .before .before .before .last-verification in
+    let at = verification-earliest _ _ _ _ _ _ (on .m-v) (on .verified) (rw (e-mem .ensures .value) at (last .ensures)) in
     before-start _ _ _ on (sym at ∙ c .before .before .if1 .left) (c .before .if2 .left) (c .if3 .left) _ refl
 
 pub step-back-spec : {M : Type 1} → statement M
