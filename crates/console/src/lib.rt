@@ -105,7 +105,8 @@ pub fn refused(number: u64) {
     numbered(b"refused", number);
 }
 
-// The answer of a planner, which wrote the marks of n tasks: the time, then one digit a task; or the number of its refusal.
+// The answer of a planner: the time, then one digit for each of n tasks; or the number of its refusal. The programs call this with the task count of a sheet, which
+// is in range where there is a plan.
 pub fn plan(answer: Answer, marks: [u8; TASK_LIMIT], n: usize)
     requires { ⌜ (answer .number ≡ 0 → n ≤ taskLimit) ⌝ }
 {
