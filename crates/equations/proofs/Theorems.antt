@@ -25,12 +25,13 @@ use Rattle.equations.specs.Equations.{E-disk}
 use Rattle.equations.specs.Promise.{printedLimit, printedRefusal, PlansAsPrinted, SameAsPlan}
 use Rattle.equations.proofs.Answers.{printed-sheet, printed-long, printed-clear}
 
--- the planner never gives 27
-module _ (s before after : List ℕ) (r : Answer) (p : Plans s before after r) where
-  sheet-other : sheetRefusal s ≢ Numbers.longChain
-  unfolding sheetRefusal has
-  sheet-other = first-other Numbers.longChain (sheetConditions s) (omega arith) refl
+-- checks 1 to 8 never give 27
+sheet-other : (s : List ℕ) → sheetRefusal s ≢ Numbers.longChain
+unfolding sheetRefusal has
+sheet-other s = first-other Numbers.longChain (sheetConditions s) (omega arith) refl
 
+-- nor does the planner
+module _ (s before after : List ℕ) (r : Answer) (p : Plans s before after r) where
   plan-other : r .number ≢ Numbers.longChain
   plan-other e = by-checks (eq-zero-or-pos (sheetRefusal s))
     where
@@ -44,7 +45,7 @@ module _ (s before after : List ℕ) (r : Answer) (p : Plans s before after r) w
 
       by-checks : (sheetRefusal s ≡ 0) ⊎ (0 < sheetRefusal s) → ⊥
       by-checks (inl z) = by-room z (decLe (jobOf s .tasks) (length before))
-      by-checks (inr h) = sheet-other (sym (p .checked h .numbered) ∙ e)
+      by-checks (inr h) = sheet-other s (sym (p .checked h .numbered) ∙ e)
 
 -- the same answer and the same buffer, byte for byte, but for 27
 module _ (s before a b : List ℕ) (r q : Answer) (prints : PlansAsPrinted s before a r) (plans : Plans s before b q) where

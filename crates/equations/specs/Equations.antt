@@ -21,7 +21,7 @@ pub record IsMin (N a b : ℕ) (f : ℕ → ℕ) (t : ℕ) : Type 0 where
   pub lower : (u : ℕ) → a ≤ u → u < b → t ≤ f u
   pub attained : t < N → Attained a b f t
 
--- u is the earliest of a <= u < b with f(u) = t
+-- u is a position of a <= u < b with f(u) = t, and all before it take longer
 pub record IsEarliest (a b : ℕ) (f : ℕ → ℕ) (t u : ℕ) : Type 0 where
   pub from : a ≤ u
   pub before : u < b
