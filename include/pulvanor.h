@@ -11,7 +11,8 @@
    call at once.
 
    `number` in an answer is 0 if the call is accepted, and else the one refusal whose condition is the first to
-   hold; README.md lists them. */
+   hold; README.md lists them. Where refusals 1 to 6, 1 to 8 or 1 to 10 of a sheet are named below, 28 is among
+   them, after 5 and before 6: a byte from 20 on is in no section. */
 #ifndef PULVANOR_H
 #define PULVANOR_H
 
@@ -103,7 +104,7 @@ uint64_t pulvanor_growth(uint64_t y);
 uint64_t pulvanor_mean_growth(uint64_t y);
 
 /* The section of this kind, 1 (platform) or 2 (weights). Refusals 1 to 6; any other kind is refused by 6, after
-   1 to 5. */
+   1 to 5 and 28. */
 struct pulvanor_found pulvanor_lookup(const uint8_t *sheet, size_t sheet_length, uint64_t kind);
 
 /* Two chains joined: the first `length` bytes of the buffer are one sheet, with the first sheet's weights, then

@@ -31,8 +31,8 @@ static void planned(const char *name, planner *plan, const uint8_t *bytes, size_
     printf("  buffer %d %d %d %d\n", buffer[0], buffer[1], buffer[2], buffer[3]);
 }
 
-static void found(const char *name, uint64_t kind) {
-    struct pulvanor_found f = pulvanor_lookup(sheet, sizeof sheet, kind);
+static void found(const char *name, const uint8_t *bytes, size_t length, uint64_t kind) {
+    struct pulvanor_found f = pulvanor_lookup(bytes, length, kind);
     printf("%s: number %llu, start %zu, size %zu\n", name, (unsigned long long)f.number, f.start, f.size);
 }
 
@@ -56,6 +56,25 @@ static void nine_tasks(uint8_t *bytes) {
         bytes[i] = i < sizeof sheet ? sheet[i] : bytes[i - 4];
     bytes[1] = 9;
     bytes[16] = 1 + 4 * 9;
+}
+
+/* Each call on the sheet with a byte past its sections. */
+static void stray_byte(void) {
+    uint8_t longer[sizeof sheet + 1], buffer[70];
+    struct pulvanor_joined j;
+    size_t i;
+    for (i = 0; i < sizeof longer; i++)
+        longer[i] = i < sizeof sheet ? sheet[i] : 0;
+    found("a byte past the sections, platform", longer, sizeof longer, 1);
+    found("kind 3", longer, sizeof longer, 3);
+    j = pulvanor_join(longer, sizeof longer, sheet, sizeof sheet, buffer, sizeof buffer);
+    printf("joined as the first: number %llu, length %zu\n", (unsigned long long)j.number, j.length);
+    j = pulvanor_join(sheet, sizeof sheet, longer, sizeof longer, buffer, sizeof buffer);
+    printf("joined as the second: number %llu, length %zu\n", (unsigned long long)j.number, j.length);
+    answer("price of 23", pulvanor_price(longer, sizeof longer, marks, sizeof marks));
+    planned("plan", pulvanor_plan, longer, sizeof longer, 4);
+    planned("printed", pulvanor_printed, longer, sizeof longer, 4);
+    outcome("start", pulvanor_start(longer, sizeof longer, marks, sizeof marks));
 }
 
 /* Whether every field of a state is 0. */
@@ -88,9 +107,9 @@ int main(void) {
     printf("growth: %llu %llu", (unsigned long long)pulvanor_growth(1), (unsigned long long)pulvanor_growth(1 << 24));
     printf(" %llu\n", (unsigned long long)pulvanor_growth((1 << 26) + 1));
     printf("mean growth: %llu\n", (unsigned long long)pulvanor_mean_growth(1));
-    found("platform", 1);
-    found("weights", 2);
-    found("kind 3", 3);
+    found("platform", sheet, sizeof sheet, 1);
+    found("weights", sheet, sizeof sheet, 2);
+    found("kind 3", sheet, sizeof sheet, 3);
     joined("joined, one byte short", sizeof sheet, twice, 65);
     joined("joined with a cut sheet", 57, twice, sizeof twice);
     both = joined("joined", sizeof sheet, twice, sizeof twice);
@@ -107,6 +126,7 @@ int main(void) {
     nine_tasks(nine);
     planned("printed, 9 tasks and a short buffer", pulvanor_printed, nine, sizeof nine, 4);
     planned("plan of them", pulvanor_plan, nine, sizeof nine, 4);
+    stray_byte();
     outcome("start", start);
     for (t = 2; t < PULVANOR_TASKS; t++)
         past += start.run.job.weights[t] != 0 || start.run.marks[t] != 0;

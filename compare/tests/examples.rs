@@ -5,6 +5,7 @@ use compare::reference::growth::{g, h};
 use compare::reference::join::join;
 use compare::reference::log;
 use compare::reference::plan;
+use compare::reference::printed;
 use compare::reference::run::{self, History};
 use compare::reference::setting::price;
 use compare::reference::sheet::{self, lookup, Section};
@@ -139,6 +140,40 @@ fn sizes() {
     let of = |n: usize| sheet::read(&sheet_writer::sheet(&FREE, &vec![1; n]));
     assert_eq!(of(64).map(|job| job.tasks), Ok(64));
     assert_eq!(of(65), Err(3));
+}
+
+/// Request 105: a byte before, between or after the sections, in either order
+/// of the kinds; 28 comes after 5 and before 6.
+#[test]
+fn stray_bytes() {
+    let platform = sheet_writer::platform_section(&PLATFORM_A);
+    let weights = sheet_writer::weights_section(&[131072, 131072]);
+    for sections in [[&platform[..], &weights], [&weights, &platform]] {
+        let of = |gaps: [&[u8]; 3]| sheet_writer::assembled(2, sections, gaps);
+        assert_eq!(price(&of([&[]; 3]), &[2, 3]), Ok(726347));
+        for gap in 0..3 {
+            let mut gaps: [&[u8]; 3] = [&[]; 3];
+            gaps[gap] = &[0];
+            let sheet = of(gaps);
+            assert_eq!(sheet::read(&sheet), Err(28));
+            assert_eq!(lookup(&sheet, 3), Err(28));
+            assert_eq!(plan::plan(&sheet, 0), Err(28));
+            assert_eq!(price(&sheet, &[]), Err(28));
+            assert_eq!(run::start(&sheet, &[]), Err(28));
+            assert_eq!(printed::printed(&sheet, 0), Err(28));
+            assert_eq!(join(&sheet, &[], 0), Err(28));
+            assert_eq!(join(&sheet_a(), &sheet, 0), Err(28));
+            assert_eq!(join(&[], &sheet, 0), Err(1));
+        }
+    }
+    let [two_platforms, overlap] = [&platform, &weights].map(|second| {
+        let mut sheet = sheet_writer::assembled(2, [&platform, second], [&[], &[], &[0]]);
+        if second == &weights {
+            sheet_writer::put(&mut sheet, sheet_writer::PAIRS[1], 48);
+        }
+        sheet::read(&sheet)
+    });
+    assert_eq!((two_platforms, overlap), (Err(28), Err(5)));
 }
 
 #[test]

@@ -77,7 +77,7 @@ fn complete_needs_every_number_and_every_edge_often() {
         assert!(!tally.complete());
         (0..WANTED).for_each(|_| tally.count(Call::Plan, number));
     }
-    let edges: [fn(&mut Tally) -> &mut u64; 12] = [
+    let edges: [fn(&mut Tally) -> &mut u64; 18] = [
         |t| &mut t.joins.of_64,
         |t| &mut t.joins.of_65,
         |t| &mut t.joins.at_total,
@@ -90,6 +90,12 @@ fn complete_needs_every_number_and_every_edge_often() {
         |t| &mut t.printed.of_9,
         |t| &mut t.printed.long_and_short,
         |t| &mut t.printed.both,
+        |t| &mut t.strays.alone[0],
+        |t| &mut t.strays.alone[1],
+        |t| &mut t.strays.alone[2],
+        |t| &mut t.strays.before_kinds,
+        |t| &mut t.strays.after_extents,
+        |t| &mut t.strays.weights_first,
     ];
     for edge in edges {
         assert!(!tally.complete());

@@ -16,6 +16,7 @@ use crate::reference::printed::MAX_PRINTED_TASKS;
 use crate::reference::run::{self, History};
 use crate::reference::setting::{self, MAX_TIME};
 use crate::reference::sheet;
+use crate::sheet_writer::HEADER_SIZE;
 use crate::types::{Answer, Event, Job, Outcome, Run, MAX_TASKS};
 
 /// One sheet at hand, with what is drawn and counted.
@@ -47,6 +48,7 @@ impl Check<'_> {
         self.lookups();
         joins::one(self.random, self.tally, &self.sheet, &case.job);
         let job = sheet::read(&self.sheet);
+        self.count_strays(job.as_ref().err().copied().unwrap_or(0));
         self.plan(case.job.tasks);
         self.printed(case.job.tasks, job.is_ok());
         let Ok(job) = job else {
@@ -84,6 +86,32 @@ impl Check<'_> {
             let reference = calls::lookup(&self.sheet, kind);
             self.tally.count(Call::Lookup, reference.number);
             self.tally.same("lookup", &self.sheet, &kind, &library, &reference);
+        }
+    }
+
+    /// Counts stray bytes by where they are, and by what else is wrong.
+    fn count_strays(&mut self, number: u64) {
+        if !matches!(number, 0 | 5 | 28) {
+            return;
+        }
+        let (sheet, strays) = (&self.sheet, &mut self.tally.strays);
+        let [first, second] = sheet::pairs(sheet);
+        match number {
+            0 => strays.weights_first += u64::from(sheet[first.start] == 2),
+            5 => strays.after_extents += u64::from(sheet::has_stray_byte(sheet, &[first, second])),
+            _ => {
+                let before = first.start > HEADER_SIZE;
+                let between = second.start > first.start + first.size;
+                let after = sheet.len() > second.start + second.size;
+                match [before, between, after] {
+                    [true, false, false] => strays.alone[0] += 1,
+                    [false, true, false] => strays.alone[1] += 1,
+                    [false, false, true] => strays.alone[2] += 1,
+                    _ => {}
+                }
+                let kinds = sheet::by_kind(sheet, [first, second]);
+                strays.before_kinds += u64::from(kinds.is_err());
+            }
         }
     }
 

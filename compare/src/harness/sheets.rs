@@ -4,29 +4,48 @@ use crate::random::Random;
 use crate::sheet_writer::{self, put, HEADER_SIZE, PAIRS};
 use crate::types::Job;
 
-/// A gap of junk before, between or after the sections, mostly none.
-fn gap(r: &mut Random) -> Vec<u8> {
-    let size = if r.chance(25) { r.sized(6) as usize } else { 0 };
-    r.bytes(size)
-}
-
 fn get(sheet: &[u8], at: usize) -> u32 {
     u32::from_le_bytes([sheet[at], sheet[at + 1], sheet[at + 2], sheet[at + 3]])
 }
 
+/// Junk in one gap, or in any of the three: before, between and after the
+/// sections.
+fn gaps(r: &mut Random) -> [Vec<u8>; 3] {
+    let chosen = if r.chance(60) { 1 << r.below(3) } else { r.between(1, 7) };
+    [0, 1, 2].map(|i| {
+        let size = if chosen >> i & 1 == 1 { r.between(1, 6) as usize } else { 0 };
+        r.bytes(size)
+    })
+}
+
 /// A header and two sections, with gaps.
 fn with_gaps(r: &mut Random, tasks: usize, sections: [&[u8]; 2]) -> Vec<u8> {
-    let gaps = [gap(r), gap(r), gap(r)];
+    let gaps = gaps(r);
     sheet_writer::assembled(tasks, sections, gaps.each_ref().map(Vec::as_slice))
+}
+
+/// The sections of a job, in either order.
+fn sections(r: &mut Random, job: &Job) -> [Vec<u8>; 2] {
+    let platform = sheet_writer::platform_section(&job.platform);
+    let weights = sheet_writer::weights_section(job.task_weights());
+    let platform_first = r.chance(50);
+    if platform_first {
+        [platform, weights]
+    } else {
+        [weights, platform]
+    }
 }
 
 /// The sheet of a job, sections in either order.
 pub fn whole(r: &mut Random, job: &Job) -> Vec<u8> {
-    let platform = sheet_writer::platform_section(&job.platform);
-    let weights = sheet_writer::weights_section(job.task_weights());
-    let platform_first = r.chance(50);
-    let sections = if platform_first { [&platform, &weights] } else { [&weights, &platform] };
-    with_gaps(r, job.tasks, sections.map(Vec::as_slice))
+    let sections = sections(r, job);
+    sheet_writer::assembled(job.tasks, sections.each_ref().map(Vec::as_slice), [&[]; 3])
+}
+
+/// The same with stray bytes.
+fn gapped(r: &mut Random, job: &Job) -> Vec<u8> {
+    let sections = sections(r, job);
+    with_gaps(r, job.tasks, sections.each_ref().map(Vec::as_slice))
 }
 
 /// A sheet of the job that has a wrong size, kind or count in a section.
@@ -43,7 +62,11 @@ fn wrong_sections(r: &mut Random, job: &Job) -> Vec<u8> {
         5 => weights.truncate(weights.len() - 1),
         _ => tasks = r.between(1, 64) as usize,
     }
-    with_gaps(r, tasks, [&platform, &weights])
+    if r.chance(65) {
+        with_gaps(r, tasks, [&platform, &weights])
+    } else {
+        sheet_writer::assembled(tasks, [&platform, &weights], [&[]; 3])
+    }
 }
 
 fn flip(r: &mut Random, sheet: &mut [u8], from: usize, to: usize) {
@@ -127,14 +150,15 @@ pub fn damaged(r: &mut Random, job: &Job) -> Vec<u8> {
 fn damaged_once(r: &mut Random, job: &Job) -> Vec<u8> {
     let mut sheet = whole(r, job);
     let size = sheet.len();
-    match r.below(20) {
+    match r.below(30) {
         0..=3 => odd_header(r, &mut sheet),
         4..=8 => shift_pairs(r, &mut sheet),
-        9..=12 => return wrong_sections(r, job),
-        13..=15 => return resized(r, sheet),
-        16 => flip(r, &mut sheet, 4, HEADER_SIZE),
-        17 => flip(r, &mut sheet, HEADER_SIZE, size),
-        18 => flip(r, &mut sheet, 0, size),
+        9..=13 => return wrong_sections(r, job),
+        14..=16 => return resized(r, sheet),
+        17 => flip(r, &mut sheet, 4, HEADER_SIZE),
+        18 => flip(r, &mut sheet, HEADER_SIZE, size),
+        19 => flip(r, &mut sheet, 0, size),
+        20..=28 => return gapped(r, job),
         _ => {
             let count = r.index(200);
             sheet = r.bytes(count);

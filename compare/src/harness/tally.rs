@@ -18,8 +18,8 @@ pub enum Call {
 const CALLS: [&str; 8] = ["lookup", "join", "price", "plan", "printed", "start", "step", "follow"];
 
 /// Every refusal number of document 01 and of the requests.
-pub const NUMBERS: [u64; 20] =
-    [1, 2, 3, 4, 5, 6, 7, 8, 9, 10, 11, 12, 13, 21, 22, 23, 24, 25, 26, 27];
+pub const NUMBERS: [u64; 21] =
+    [1, 2, 3, 4, 5, 28, 6, 7, 8, 9, 10, 11, 12, 13, 21, 22, 23, 24, 25, 26, 27];
 
 /// How often each refusal is to be seen in the default run.
 pub const WANTED: u64 = 100;
@@ -61,6 +61,19 @@ pub struct Printed {
     pub both: u64,
 }
 
+/// Sheets with stray bytes, and their like (request 105).
+#[derive(Default)]
+pub struct Strays {
+    /// Refused by 28 with one gap alone: before, between or after the sections.
+    pub alone: [u64; 3],
+    /// Refused by 28 though 6 holds too.
+    pub before_kinds: u64,
+    /// Refused by 5 though a byte is in no section.
+    pub after_extents: u64,
+    /// Accepted with the weights first.
+    pub weights_first: u64,
+}
+
 #[derive(Default)]
 pub struct Tally {
     pub sheets: u64,
@@ -71,8 +84,9 @@ pub struct Tally {
     pub joins: Joins,
     pub refills: Refills,
     pub printed: Printed,
+    pub strays: Strays,
     pub differences: u64,
-    counts: [[u64; 28]; 8],
+    counts: [[u64; 29]; 8],
 }
 
 fn hex(bytes: &[u8]) -> String {
@@ -116,8 +130,8 @@ impl Tally {
     }
 
     /// How often each edge of the requests was seen.
-    fn edges(&self) -> [(&'static str, u64); 12] {
-        let (j, r, p) = (&self.joins, &self.refills, &self.printed);
+    fn edges(&self) -> [(&'static str, u64); 18] {
+        let (j, r, p, s) = (&self.joins, &self.refills, &self.printed, &self.strays);
         [
             ("joined, 64 tasks", j.of_64),
             ("refused, 65", j.of_65),
@@ -131,6 +145,12 @@ impl Tally {
             ("refused, 9", p.of_9),
             ("27 before 11", p.long_and_short),
             ("by both engines", p.both),
+            ("stray, before", s.alone[0]),
+            ("stray, between", s.alone[1]),
+            ("stray, after", s.alone[2]),
+            ("28 before 6", s.before_kinds),
+            ("5 before 28", s.after_extents),
+            ("weights first", s.weights_first),
         ]
     }
 

@@ -1,4 +1,5 @@
-//! Reading a job sheet: refusals 1 to 8, and lookup by kind.
+//! Reading a job sheet: refusals 1 to 8, 28 among them after 5, and lookup by
+//! kind.
 
 use crate::reference::stretch;
 use crate::types::{Job, Platform, Refusal, MAX_TASKS};
@@ -19,7 +20,7 @@ pub struct Section {
 }
 
 /// Where the two sections lie.
-struct Layout {
+pub struct Layout {
     tasks: usize,
     platform: Section,
     weights: Section,
@@ -31,6 +32,19 @@ fn field(sheet: &[u8], at: usize) -> u32 {
 
 fn pair(sheet: &[u8], at: usize) -> Section {
     Section { start: field(sheet, at) as usize, size: field(sheet, at + 4) as usize }
+}
+
+/// The two pairs of a sheet that has a header, whatever they say.
+pub fn pairs(sheet: &[u8]) -> [Section; 2] {
+    [pair(sheet, 4), pair(sheet, 12)]
+}
+
+/// Request 105: a byte from 20 on is in no section.
+pub fn has_stray_byte(sheet: &[u8], sections: &[Section; 2]) -> bool {
+    let holds = |section: &Section, byte: usize| {
+        section.start <= byte && byte < section.start + section.size
+    };
+    (HEADER_SIZE..sheet.len()).any(|byte| !sections.iter().any(|s| holds(s, byte)))
 }
 
 /// Refusal 5 for one section, `floor` being the lowest offset it may have.
@@ -53,8 +67,7 @@ fn sections(sheet: &[u8]) -> Result<[Section; 2], Refusal> {
     if sheet[2] != 2 {
         return Err(4);
     }
-    let first = pair(sheet, 4);
-    let second = pair(sheet, 12);
+    let [first, second] = pairs(sheet);
     if misplaced(first, HEADER_SIZE, size) {
         return Err(5);
     }
@@ -64,9 +77,8 @@ fn sections(sheet: &[u8]) -> Result<[Section; 2], Refusal> {
     Ok([first, second])
 }
 
-/// Refusals 1 to 6.
-fn layout(sheet: &[u8]) -> Result<Layout, Refusal> {
-    let [first, second] = sections(sheet)?;
+/// Refusal 6, or which section is of which kind.
+pub fn by_kind(sheet: &[u8], [first, second]: [Section; 2]) -> Result<Layout, Refusal> {
     let tasks = usize::from(sheet[1]);
     let (platform, weights) = match (sheet[first.start], sheet[second.start]) {
         (1, 2) => (first, second),
@@ -77,6 +89,15 @@ fn layout(sheet: &[u8]) -> Result<Layout, Refusal> {
         return Err(6);
     }
     Ok(Layout { tasks, platform, weights })
+}
+
+/// Refusals 1 to 5, 28 and 6.
+fn layout(sheet: &[u8]) -> Result<Layout, Refusal> {
+    let sections = sections(sheet)?;
+    if has_stray_byte(sheet, &sections) {
+        return Err(28);
+    }
+    by_kind(sheet, sections)
 }
 
 fn content(sheet: &[u8], layout: &Layout) -> Job {
@@ -103,7 +124,7 @@ pub fn check_values(job: &Job) -> Result<(), Refusal> {
     Ok(())
 }
 
-/// Refusals 1 to 8, or the sheet's content.
+/// Refusals 1 to 8 with 28, or the sheet's content.
 pub fn read(sheet: &[u8]) -> Result<Job, Refusal> {
     let layout = layout(sheet)?;
     let job = content(sheet, &layout);
@@ -111,7 +132,7 @@ pub fn read(sheet: &[u8]) -> Result<Job, Refusal> {
     Ok(job)
 }
 
-/// The section of a kind: refusals 1 to 6.
+/// The section of a kind: refusals 1 to 6 with 28.
 pub fn lookup(sheet: &[u8], kind: u64) -> Result<Section, Refusal> {
     let layout = layout(sheet)?;
     match kind {

@@ -1,4 +1,4 @@
--- The starred examples of document 01 hold, by computing the definitions. Assumes nothing.
+-- The starred examples of document 01 and the team's own hold, by computing the definitions. Assumes nothing.
 use mathlib.Core.Path.{_≡_, refl}
 use mathlib.Core.Bool.{true}
 use Rattle.units.specs.Unit.{up}
@@ -9,7 +9,7 @@ use Rattle.growth.specs.Growth.{ceilDiv, term, termSum, growthSum, growth, G, H
 use Rattle.chain.specs.Time.{last, times, D}
 use Rattle.job.specs.Job.{total, between, isAllowed, stretchAllowed}
 use Rattle.job.specs.Checks.{badCount, badCost, badWeight, badValue, badTask}
-use Rattle.sheet.specs.Layout.{tasks, offset, size, kind, indexOf, section, badLength, badForm, badSections, badExtent, badExtents, oneOfEach, badKinds}
+use Rattle.sheet.specs.Layout.{tasks, offset, size, kind, indexOf, section, badLength, badForm, badSections, badExtent, badExtents, inSection, covered, strayByte, oneOfEach, badKinds}
 use Rattle.sheet.specs.Reading.{platformOf, weightsOf, jobOf}
 use Rattle.marks.specs.Pays.{table, paysOf}
 use Rattle.marks.specs.Marks.{badMarks, badStretch, badStretches}
@@ -20,7 +20,24 @@ use Rattle.state.specs.State.{cleared, fresh, zeroRun, totalOf, brokenValues, b
 use Rattle.following.specs.Run.{afterDone, afterPassed, backToMemory, backToDisk, placeAfter, nextPlace, outOfTurn, overWeight, stepRefusal, stepOf}
 use Rattle.following.specs.Start.{startRefusal, startOf}
 use Rattle.history.specs.Events.{steps}
-use Rattle.examples.specs.Starred.{sheetA, sheetOne, timeUnder, runOfA, starred, allAgree}
+use Rattle.examples.specs.Starred.{
+  headerA,
+  platformA,
+  weightsA,
+  sheetA,
+  weightsFirst,
+  strayBefore,
+  strayBetween,
+  strayAfter,
+  strayKinds,
+  strayOverlap,
+  sheetOne,
+  timeUnder,
+  numberUnder,
+  runOfA,
+  starred,
+  allAgree,
+}
 
 pub starred-examples : allAgree starred ≡ true
 unfolding up
@@ -31,7 +48,7 @@ unfolding up
     last times D
     total between isAllowed stretchAllowed
     badCount badCost badWeight badValue badTask
-    tasks offset size kind indexOf section badLength badForm badSections badExtent badExtents oneOfEach badKinds
+    tasks offset size kind indexOf section badLength badForm badSections badExtent badExtents inSection covered strayByte oneOfEach badKinds
     platformOf weightsOf jobOf
     table paysOf
     badMarks badStretch badStretches
@@ -42,5 +59,5 @@ unfolding up
     afterDone afterPassed backToMemory backToDisk placeAfter nextPlace outOfTurn overWeight stepRefusal stepOf
     startRefusal startOf
     steps
-    sheetA sheetOne timeUnder runOfA starred allAgree
+    headerA platformA weightsA sheetA weightsFirst strayBefore strayBetween strayAfter strayKinds strayOverlap sheetOne timeUnder numberUnder runOfA starred allAgree
 starred-examples = refl

@@ -1,8 +1,8 @@
--- The starred examples of document 01, growths and times worked out anew by request 103: one list of a number that the definitions give and the number
--- expected, and one test over it.
+-- The starred examples of document 01, growths and times worked out anew by request 103, and the team's own for request 105: one list of a number that the
+-- definitions give and the number expected, and one test over it.
 use Prim.Native.Nat.{ℕ, _+_, _^_}
 use mathlib.Core.Bool.{Bool, true, _&&_}
-use mathlib.Core.List.{List, [], _∷_}
+use mathlib.Core.List.{List, [], _∷_, _++_}
 use lib.Dec.{eqb}
 use Rattle.growth.specs.Growth.{G, H}
 use Rattle.pricing.specs.Price.{priceOf}
@@ -11,12 +11,43 @@ use Rattle.history.specs.Events.{steps}
 use Rattle.state.specs.declared.Sums.{Sums}
 use Rattle.following.specs.declared.Event.the-variants.{Done, Passed, Failed}
 
--- sheet A: bytes 1, 2, 2, 0; pairs (20, 29), (49, 9); rates 0 and 2^31; C_D 5000, C_M 1000, V 928, R_D 4000, R_M 1000; weights 131072, 131072
+-- A's header with the pairs (a, b), (c, d): bytes 1, 2, 2, 0, then four fields below 2^8
+unfoldable pub headerA : (a b c d : ℕ) → List ℕ
+headerA a b c d = 1 ∷ 2 ∷ 2 ∷ 0 ∷ a ∷ 0 ∷ 0 ∷ 0 ∷ b ∷ 0 ∷ 0 ∷ 0 ∷ c ∷ 0 ∷ 0 ∷ 0 ∷ d ∷ 0 ∷ 0 ∷ 0 ∷ []
+
+-- rates 0 and 2^31; C_D 5000, C_M 1000, V 928, R_D 4000, R_M 1000
+unfoldable pub platformA : List ℕ
+platformA =
+    1 ∷ 0 ∷ 0 ∷ 0 ∷ 0 ∷ 0 ∷ 0 ∷ 0 ∷ 128 ∷ 136 ∷ 19 ∷ 0 ∷ 0 ∷ 232 ∷ 3 ∷ 0 ∷ 0 ∷ 160 ∷ 3 ∷ 0 ∷ 0 ∷ 160 ∷ 15 ∷ 0 ∷ 0 ∷
+    232 ∷ 3 ∷ 0 ∷ 0 ∷ []
+
+-- weights 131072, 131072
+unfoldable pub weightsA : List ℕ
+weightsA = 2 ∷ 0 ∷ 0 ∷ 2 ∷ 0 ∷ 0 ∷ 0 ∷ 2 ∷ 0 ∷ []
+
+-- sheet A: pairs (20, 29), (49, 9)
 unfoldable pub sheetA : List ℕ
-sheetA =
-    1 ∷ 2 ∷ 2 ∷ 0 ∷ 20 ∷ 0 ∷ 0 ∷ 0 ∷ 29 ∷ 0 ∷ 0 ∷ 0 ∷ 49 ∷ 0 ∷ 0 ∷ 0 ∷ 9 ∷ 0 ∷ 0 ∷ 0 ∷ 1 ∷ 0 ∷ 0 ∷ 0 ∷ 0 ∷ 0 ∷
-    0 ∷ 0 ∷ 128 ∷ 136 ∷ 19 ∷ 0 ∷ 0 ∷ 232 ∷ 3 ∷ 0 ∷ 0 ∷ 160 ∷ 3 ∷ 0 ∷ 0 ∷ 160 ∷ 15 ∷ 0 ∷ 0 ∷ 232 ∷ 3 ∷ 0 ∷ 0 ∷
-    2 ∷ 0 ∷ 0 ∷ 2 ∷ 0 ∷ 0 ∷ 0 ∷ 2 ∷ 0 ∷ []
+sheetA = headerA 20 29 49 9 ++ (platformA ++ weightsA)
+
+-- A's sections in the other order; then A with one byte before, between or after its sections
+unfoldable pub weightsFirst : List ℕ
+weightsFirst = headerA 20 9 29 29 ++ (weightsA ++ platformA)
+
+unfoldable pub strayBefore : List ℕ
+strayBefore = headerA 21 29 50 9 ++ (0 ∷ platformA ++ weightsA)
+
+unfoldable pub strayBetween : List ℕ
+strayBetween = headerA 20 29 50 9 ++ (platformA ++ (0 ∷ weightsA))
+
+unfoldable pub strayAfter : List ℕ
+strayAfter = sheetA ++ (0 ∷ [])
+
+-- a byte between two platforms, for which 6 holds too; one after sections that overlap, for which 5 holds too
+unfoldable pub strayKinds : List ℕ
+strayKinds = headerA 20 29 50 29 ++ (platformA ++ (0 ∷ platformA))
+
+unfoldable pub strayOverlap : List ℕ
+strayOverlap = headerA 20 29 48 9 ++ (platformA ++ weightsA)
 
 -- one task of 16, rates 2^20 and 0, V 3, C_M 4, C_D 6
 unfoldable pub sheetOne : List ℕ
@@ -29,6 +60,10 @@ sheetOne =
 unfoldable pub timeUnder : List ℕ → List ℕ → ℕ
 timeUnder sheet marks = priceOf sheet marks .time
 
+-- and the number of its refusal
+unfoldable pub numberUnder : List ℕ → List ℕ → ℕ
+numberUnder sheet marks = priceOf sheet marks .number
+
 -- the run of A under 23 through Done, Passed, Done, Failed, Done, Passed
 unfoldable pub runOfA : Sums
 runOfA =
@@ -37,7 +72,7 @@ runOfA =
 pub record Example : Type 0 where
   -- what the definitions give
   pub given : ℕ
-  -- what document 01 prints, or request 103 makes of it
+  -- what document 01 prints, or a request makes of it
   pub expected : ℕ
 
 abbrev example : ℕ → ℕ → Example
@@ -57,6 +92,13 @@ starred =
     ∷ example (timeUnder sheetA (2 ∷ 3 ∷ [])) 726347
     ∷ example (timeUnder sheetA (3 ∷ 3 ∷ [])) 731347
     ∷ example (timeUnder sheetOne (3 ∷ [])) 30
+    ∷ example (numberUnder sheetA (2 ∷ 3 ∷ [])) 0
+    ∷ example (timeUnder weightsFirst (2 ∷ 3 ∷ [])) 726347
+    ∷ example (numberUnder strayBefore (2 ∷ 3 ∷ [])) 28
+    ∷ example (numberUnder strayBetween (2 ∷ 3 ∷ [])) 28
+    ∷ example (numberUnder strayAfter (2 ∷ 3 ∷ [])) 28
+    ∷ example (numberUnder strayKinds (2 ∷ 3 ∷ [])) 28
+    ∷ example (numberUnder strayOverlap (2 ∷ 3 ∷ [])) 5
     ∷ example (runOfA .kept) 262144
     ∷ example (runOfA .redone) 131072
     ∷ example (runOfA .verify) 2784

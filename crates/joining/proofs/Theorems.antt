@@ -17,8 +17,8 @@ use Rattle.job.specs.Checks.{badCount}
 use Rattle.job.proofs.Ranges.{values-passed}
 use Rattle.sheet.specs.Reading.{jobOf, sheetConditions, sheetRefusal, readingOf}
 use Rattle.sheet.proofs.Readings.{sheet-numbered, sheet-layout, sheet-goes-on, sheet-sound}
-use Rattle.writing.proofs.Forms.{form-reads, platform-at, weights-at}
-use Rattle.joining.specs.Join.{JoinReads, joinedWeights, joinedSheet, joinedJob, joinConditions, joinRefusal, Joins}
+use Rattle.writing.proofs.Forms.{form-reads, no-stray, platform-at, weights-at}
+use Rattle.joining.specs.Join.{JoinRefused, JoinReads, joinedWeights, joinedSheet, joinedJob, joinConditions, joinRefusal, Joins}
 use Rattle.joining.specs.declared.Joined.{Joined}
 use Rattle.joining.proofs.Parts.{both-accepted}
 use Rattle.joining.proofs.Both.{BothPassed, both-passed}
@@ -77,6 +77,12 @@ module _ (s t before after : List ℕ) (r : Joined) (joins : Joins s t before af
   unfolding joinRefusal
   join-decides h = first-decides (r .number) (joinConditions s t (length before)) h (sym (joins .number))
 
+  -- with it come length 0 and a buffer as it was
+  pub join-refuses : 0 < r .number → JoinRefused (r .number) before after r
+  join-refuses h =
+      let other = ne-eqb (joinRefusal s t (length before)) 0 (λ e. omega (arith, joins .number)) in
+      record { numbered = refl; no-length = rw (joins .size, other) refl; untouched = rw (joins .buffer, other) refl }
+
   -- the buffer keeps its length, and the length that is given never passes it
   refused-or-not : Dec (joinRefusal s t (length before) ≡ 0)
   refused-or-not = ℕ-discrete (joinRefusal s t (length before)) 0
@@ -127,4 +133,5 @@ module _ (s t before after : List ℕ) (r : Joined) (joins : Joins s t before af
         platform-at = rw written (platform-at (jobOf s .platform) (joinedWeights (jobOf s) (jobOf t)));
         weights-at = rw written (weights-at (jobOf s .platform) (joinedWeights (jobOf s) (jobOf t)));
         ends = rw written (length-sheet (jobOf s) (jobOf t) (joinable s t (length before) passed .both));
+        no-stray = rw written (no-stray (jobOf s .platform) (joinedWeights (jobOf s) (jobOf t)) (counted s t (length before) passed));
       }

@@ -1,7 +1,7 @@
 -- Request 101: what joining two sheets gives, for every two lists of bytes and every lent buffer.
 use Prim.Native.Nat.{ℕ, _+_}
 use mathlib.Core.Path.{_≡_}
-use mathlib.Core.Bool.{Bool, cond, not, _&&_}
+use mathlib.Core.Bool.{Bool, false, cond, not, _&&_}
 use mathlib.Core.List.{List, [], _∷_, _++_}
 use lib.Dec.{ltb, eqb}
 use lib.ListN.{length, take}
@@ -12,7 +12,7 @@ use Rattle.refusals.specs.Refusals.{Condition, refusal, first}
 use Rattle.job.specs.Job.{taskLimit, weightAt, total}
 use Rattle.job.specs.declared.Platform.{Platform}
 use Rattle.job.specs.declared.Job.{Job}
-use Rattle.sheet.specs.Layout.{platformKind, weightsKind, weightsLength, offset, indexOf}
+use Rattle.sheet.specs.Layout.{platformKind, weightsKind, weightsLength, offset, indexOf, strayByte}
 use Rattle.sheet.specs.Reading.{jobOf, sheetConditions, sheetRefusal, readingOf}
 use Rattle.writing.specs.Form.{platformStart, weightsStart, formOne, written}
 use Rattle.joining.specs.declared.Joined.{Joined}
@@ -86,6 +86,12 @@ pub record Writes (decided : ℕ) (sheet before after : List ℕ) (r : Joined) :
 abbrev pub Joins : (s t before after : List ℕ) → Joined → Type 0
 Joins s t before after r = Writes (joinRefusal s t (length before)) (joinedSheet (jobOf s) (jobOf t)) before after r
 
+-- a refused join: this number, length 0 and no byte written
+pub record JoinRefused (number : ℕ) (before after : List ℕ) (r : Joined) : Type 0 where
+  pub numbered : r .number ≡ number
+  pub no-length : r .length ≡ 0
+  pub untouched : after ≡ before
+
 -- what an accepted join of s and t means for the bytes written: 'Reading the joined sheet gives just those values'
 pub record JoinReads (s t sheet : List ℕ) : Type 0 where
   -- both were accepted
@@ -98,3 +104,5 @@ pub record JoinReads (s t sheet : List ℕ) : Type 0 where
   pub platform-at : offset sheet (indexOf sheet platformKind) ≡ platformStart
   pub weights-at : offset sheet (indexOf sheet weightsKind) ≡ weightsStart
   pub ends : length sheet ≡ weightsStart + weightsLength (jobOf s .tasks + jobOf t .tasks)
+  -- 'no gaps': each byte from 20 on is in a section
+  pub no-stray : strayByte sheet ≡ false

@@ -34,6 +34,21 @@ some-holds (suc n) p j h e = go (eq-or-lt-of-le (le-of-suc-le-suc h)) (some-hold
     go (inl q) ih = rw (← q, e) (or-true (some j p))
     go (inr q) ih = rw (ih q e)
 
+-- and where the test over all of them holds, there is one
+pub record Passing (n : ℕ) (p : ℕ → Bool) : Type 0 where
+  pub at : ℕ
+  pub below : at < n
+  pub passes : p at ≡ true
+
+pub some-found : (n : ℕ) (p : ℕ → Bool) → some n p ≡ true → Passing n p
+unfolding some
+some-found zero p e = absurd (false≢true e)
+some-found (suc n) p e = go (some n p) refl e (some-found n p)
+  where
+    go : (b : Bool) → some n p ≡ b → (b || p n) ≡ true → (some n p ≡ true → Passing n p) → Passing (suc n) p
+    go true q z ih = let found = ih q in record { at = found .at; below = omega (arith, found .below); passes = found .passes }
+    go false q z ih = record { at = n; below = omega arith; passes = z }
+
 -- one number more that fails
 pub some-more : (n : ℕ) (p : ℕ → Bool) → some n p ≡ false → p n ≡ false → some (n + 1) p ≡ false
 unfolding some

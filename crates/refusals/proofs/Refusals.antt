@@ -57,6 +57,12 @@ first-goes-on cs ds n e = go cs (first-clear cs n e)
     go [] h = refl
     go (c ∷ cs) h = rw (h 0) (go cs (λ i. h (suc i)))
 
+-- lists that give one number give one after the same conditions
+pub first-after : (front cs ds : List Condition) → first cs ≡ first ds → first (front ++ cs) ≡ first (front ++ ds)
+unfolding first
+first-after [] cs ds e = e
+first-after (c ∷ front) cs ds e = rw (first-after front cs ds e) refl
+
 -- where no condition of two lists holds, none of the first list does
 pub first-none : (cs ds : List Condition) → first (cs ++ ds) ≡ 0 → first cs ≡ 0
 first-none cs ds e = go (eq-zero-or-pos (first cs))

@@ -64,3 +64,6 @@ otherPlatform = 26
 
 abbrev pub longChain : ℕ
 longChain = 27
+
+abbrev pub strayByte : ℕ
+strayByte = 28

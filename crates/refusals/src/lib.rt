@@ -50,6 +50,9 @@ pub const OTHER_PLATFORM: u64 = 26;
 // Of a sheet for the equations as printed.
 pub const LONG_CHAIN: u64 = 27;
 
+// Of a sheet, by request 105: tested after 5 and before 6.
+pub const STRAY_BYTE: u64 = 28;
+
 // The answer to a call: number 0 and the time, or the number of its refusal and time 0.
 #[repr(C)]
 pub struct Answer {

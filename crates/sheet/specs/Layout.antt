@@ -1,9 +1,10 @@
--- The layout of document 01's job sheet: where its fields and sections stand, and checks 1 to 6 in their order.
+-- The layout of document 01's job sheet: where its fields and sections stand, and checks 1 to 6 in their order, with request 105's 28 after 5.
 use Prim.Native.Nat.{ℕ, _+_, _*_}
 use mathlib.Core.Bool.{Bool, cond, not, _||_, _&&_}
 use mathlib.Core.List.{List, [], _∷_, _++_}
-use lib.Dec.{ltb, eqb}
+use lib.Dec.{leb, ltb, eqb}
 use lib.ListN.{length, take, drop}
+use Rattle.lists.specs.Lists.{some}
 use Rattle.refusals.specs.Numbers
 use Rattle.refusals.specs.Refusals.{Condition, refusal}
 use Rattle.job.specs.Checks.{badCount}
@@ -90,6 +91,24 @@ badExtents s =
     badExtent 0 (offset s 0) (size s 0) (length s)
     || badExtent (offset s 0 + size s 0) (offset s 1) (size s 1) (length s)
 
+-- byte i is in section k: from its offset on, before its end
+unfoldable pub inSection : List ℕ → (k i : ℕ) → Bool
+inSection s k i = leb (offset s k) i && ltb i (offset s k + size s k)
+
+-- byte i is in a section
+unfoldable pub covered : List ℕ → ℕ → Bool
+covered s i = some sections (λ k. inSection s k i)
+
+-- 28 (request 105): 'a byte from 20 on in no section', before the sheet's end
+unfoldable pub strayByte : List ℕ → Bool
+strayByte s = some (length s) (λ i. leb leastOffset i && not (covered s i))
+
+-- 'Sections now follow one another directly from byte 20, and the last ends with the sheet': past 5, that there is no such byte (`stray-seams`)
+unfoldable pub contiguous : List ℕ → Bool
+contiguous s =
+    eqb (offset s 0) leastOffset
+    && (eqb (offset s 1) (offset s 0 + size s 0) && eqb (length s) (offset s 1 + size s 1))
+
 -- one section of each kind
 unfoldable pub oneOfEach : ℕ → ℕ → Bool
 oneOfEach a b = (eqb a platformKind && eqb b weightsKind) || (eqb a weightsKind && eqb b platformKind)
@@ -110,10 +129,14 @@ headerConditions s =
     ∷ refusal Numbers.badSections (badSections s)
     ∷ []
 
--- checks 5 and 6
+-- checks 5, 28 and 6
 abbrev pub sectionConditions : List ℕ → List Condition
-sectionConditions s = refusal Numbers.badExtents (badExtents s) ∷ refusal Numbers.badKinds (badKinds s) ∷ []
+sectionConditions s =
+    refusal Numbers.badExtents (badExtents s)
+    ∷ refusal Numbers.strayByte (strayByte s)
+    ∷ refusal Numbers.badKinds (badKinds s)
+    ∷ []
 
--- checks 1 to 6
+-- checks 1 to 6, 28 among them after 5: every list that is said to have 1 to 6, 1 to 8 or 1 to 10 has this one in it
 abbrev pub layoutConditions : List ℕ → List Condition
 layoutConditions s = headerConditions s ++ sectionConditions s

@@ -2,4 +2,5 @@ pub mod Bytes
 pub mod Layout
 pub mod Lookup
 pub mod Reading
+pub mod Whole
 pub mod Working

@@ -1,8 +1,8 @@
-// The layout of a sheet: where its sections lie, and checks 1 to 6. A section is asked for by its index, 0 or 1, by this crate alone.
+// The layout of a sheet: where its sections lie, and checks 1 to 6, with 28 after 5. A section is asked for by its index, 0 or 1, by this crate alone.
 ghost use mathlib.Core.Path.{_≡_};
 ghost use Prim.Native.Nat.{_+_, _<_, _^_};
 ghost use Rattle.refusals.specs.Refusals.{first};
-ghost use Rattle.sheet.specs.Layout.{badLength, badForm, tasks, badSections, badExtent, badExtents, oneOfEach, badKinds, indexOf, offset, size, kind, headerConditions, sectionConditions, layoutConditions};
+ghost use Rattle.sheet.specs.Layout.{badLength, badForm, tasks, badSections, badExtent, badExtents, contiguous, oneOfEach, badKinds, indexOf, offset, size, kind, headerConditions, sectionConditions, layoutConditions};
 ghost use Rattle.sheet.specs.Working.Extent.{IsExtent};
 use crate::LONGEST_SHEET;
 use crate::PLATFORM_KIND;
@@ -17,6 +17,7 @@ use refusals::BAD_FORM;
 use refusals::BAD_KINDS;
 use refusals::BAD_LENGTH;
 use refusals::BAD_SECTIONS;
+use refusals::STRAY_BYTE;
 
 const SHORTEST_SHEET: usize = 20;
 
@@ -101,6 +102,23 @@ fn bad_extents(s: &[u8]) -> bool
     bad_extent(offset + size, offset_of(s, 1), size_of(s, 1), s.len())
 }
 
+// Whether the sections follow one another directly from byte 20 and the last ends with the sheet. Past check 5 it is so just where no byte is stray.
+fn is_contiguous(s: &[u8]) -> bool
+    ensures { λ r. ⌜ r ≡ contiguous (now (s .entry)) ⌝ }
+{
+    let start = offset_of(s, 0);
+    let end = start + size_of(s, 0);
+    let next = offset_of(s, 1);
+    let last = next + size_of(s, 1);
+    if start != LEAST_OFFSET {
+        return false;
+    }
+    if next != end {
+        return false;
+    }
+    s.len() == last
+}
+
 fn is_one_of_each(a: u64, b: u64) -> bool
     ensures { λ r. ⌜ r ≡ oneOfEach a b ⌝ }
 {
@@ -156,14 +174,20 @@ fn header_refusal(s: &[u8]) -> u64
     0
 }
 
-// The first of checks 5 and 6 that holds, or 0.
+// The first of checks 5, 28 and 6 that holds, or 0.
 fn section_refusal(s: &[u8]) -> u64
     ensures { λ r. ⌜ r ≡ first (sectionConditions (now (s .entry))) ⌝ }
 {
-    if bad_extents(s) {
+    let misplaced = bad_extents(s);
+    let stray = !is_contiguous(s);
+    let odd = bad_kinds(s);
+    if misplaced {
         return BAD_EXTENTS;
     }
-    if bad_kinds(s) {
+    if stray {
+        return STRAY_BYTE;
+    }
+    if odd {
         return BAD_KINDS;
     }
     0

@@ -37,11 +37,14 @@ use Rattle.sheet.specs.Layout.{
   badSections,
   badExtent,
   badExtents,
+  strayByte,
+  contiguous,
   oneOfEach,
   badKinds,
   layoutConditions,
 }
 use Rattle.sheet.specs.Reading.{sectionField, platformOf, weightsOf, jobOf, readingOf}
+use Rattle.sheet.proofs.Stray.{stray-seams}
 use Rattle.sheet.proofs.Readings.{sheet-goes-on, reading-accepted}
 use Rattle.writing.specs.Form.{fieldBytes, fields, platformStart, weightsStart, platformFields, platformSection, weightsSection, formOne}
 use Rattle.writing.proofs.Fields.{field-read, length-fields, field-after, fields-read}
@@ -172,6 +175,20 @@ module _ (p : Platform) (w : List ℕ) where
           le-ltb (weightsStart + weightsLength (length w)) (weightsStart + weightsLength (length w)) (omega arith),
         ) refl
 
+    -- the sections follow one another, so that no byte is stray
+    pub no-stray : strayByte (formOne p w) ≡ false
+    unfolding contiguous
+    no-stray =
+        stray-seams (formOne p w) right-extents
+        ∙ rw (
+          platform-offset p w,
+          platform-size p w,
+          weights-offset p w,
+          weights-size p w,
+          form-length p w,
+          eq-eqb (weightsStart + weightsLength (length w)) (weightsStart + weightsLength (length w)) refl,
+        ) refl
+
     right-kinds : badKinds (formOne p w) ≡ false
     unfolding badKinds oneOfEach
     right-kinds =
@@ -188,7 +205,7 @@ module _ (p : Platform) (w : List ℕ) where
 
     form-layout : first (layoutConditions (formOne p w)) ≡ 0
     unfolding first
-    form-layout = rw (right-length, right-form, form-tasks p w, count, right-sections, right-extents, right-kinds) refl
+    form-layout = rw (right-length, right-form, form-tasks p w, count, right-sections, right-extents, no-stray, right-kinds) refl
 
     -- reading accepts it where its values pass checks 7 and 8, and gives just those values
     pub form-reads : first (jobConditions (formJob p w)) ≡ 0 → readingOf (formOne p w) ≡ record { number = Numbers.accepted; job = formJob p w }

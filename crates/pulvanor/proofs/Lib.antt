@@ -1,0 +1,2 @@
+-- The theorems on the library's calls together.
+pub mod Stray
