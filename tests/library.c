@@ -36,13 +36,13 @@ static void found(const char *name, const uint8_t *bytes, size_t length, uint64_
     printf("%s: number %llu, start %zu, size %zu\n", name, (unsigned long long)f.number, f.start, f.size);
 }
 
-/* The sheet joined with itself into a buffer of 9s, and how many bytes of it are 9 still. */
-static struct pulvanor_joined joined(const char *name, size_t second_length, uint8_t *buffer, size_t room) {
+/* Two sheets joined into a buffer of 9s, and how many bytes of it are 9 still. */
+static struct pulvanor_joined joined(const char *name, const uint8_t *one, size_t length, const uint8_t *other, size_t other_length, uint8_t *buffer, size_t room) {
     struct pulvanor_joined j;
     size_t i, left = 0;
     for (i = 0; i < room; i++)
         buffer[i] = 9;
-    j = pulvanor_join(sheet, sizeof sheet, sheet, second_length, buffer, room);
+    j = pulvanor_join(one, length, other, other_length, buffer, room);
     for (i = j.length; i < room; i++)
         left += buffer[i] == 9;
     printf("%s: number %llu, length %zu, untouched after it %zu\n", name, (unsigned long long)j.number, j.length, left);
@@ -58,25 +58,6 @@ static void nine_tasks(uint8_t *bytes) {
     bytes[16] = 1 + 4 * 9;
 }
 
-/* Each call on the sheet with a byte past its sections. */
-static void stray_byte(void) {
-    uint8_t longer[sizeof sheet + 1], buffer[70];
-    struct pulvanor_joined j;
-    size_t i;
-    for (i = 0; i < sizeof longer; i++)
-        longer[i] = i < sizeof sheet ? sheet[i] : 0;
-    found("a byte past the sections, platform", longer, sizeof longer, 1);
-    found("kind 3", longer, sizeof longer, 3);
-    j = pulvanor_join(longer, sizeof longer, sheet, sizeof sheet, buffer, sizeof buffer);
-    printf("joined as the first: number %llu, length %zu\n", (unsigned long long)j.number, j.length);
-    j = pulvanor_join(sheet, sizeof sheet, longer, sizeof longer, buffer, sizeof buffer);
-    printf("joined as the second: number %llu, length %zu\n", (unsigned long long)j.number, j.length);
-    answer("price of 23", pulvanor_price(longer, sizeof longer, marks, sizeof marks));
-    planned("plan", pulvanor_plan, longer, sizeof longer, 4);
-    planned("printed", pulvanor_printed, longer, sizeof longer, 4);
-    outcome("start", pulvanor_start(longer, sizeof longer, marks, sizeof marks));
-}
-
 /* Whether every field of a state is 0. */
 static int all_zero(const struct pulvanor_run *r) {
     const struct pulvanor_platform *p = &r->job.platform;
@@ -87,6 +68,25 @@ static int all_zero(const struct pulvanor_run *r) {
         some |= r->job.weights[t] | r->marks[t];
     some |= r->place.position | r->place.awaiting | s->kept | s->redone | s->verify | s->saves | s->recovery;
     return some == 0;
+}
+
+/* Each call that reads a sheet, on one with a byte past its sections. */
+static void stray_byte(void) {
+    uint8_t longer[sizeof sheet + 1], buffer[70];
+    struct pulvanor_outcome o;
+    size_t i;
+    for (i = 0; i < sizeof longer; i++)
+        longer[i] = i < sizeof sheet ? sheet[i] : 0;
+    found("stray byte, platform", longer, sizeof longer, 1);
+    found("stray byte, kind 3", longer, sizeof longer, 3);
+    joined("stray byte, joined as the first", longer, sizeof longer, sheet, sizeof sheet, buffer, sizeof buffer);
+    joined("stray byte, joined as the second", sheet, sizeof sheet, longer, sizeof longer, buffer, sizeof buffer);
+    answer("stray byte, price of 23", pulvanor_price(longer, sizeof longer, marks, sizeof marks));
+    planned("stray byte, plan", pulvanor_plan, longer, sizeof longer, 4);
+    planned("stray byte, printed", pulvanor_printed, longer, sizeof longer, 4);
+    o = pulvanor_start(longer, sizeof longer, marks, sizeof marks);
+    outcome("stray byte, start", o);
+    printf("its state is all 0: %s\n", all_zero(&o.run) ? "yes" : "no");
 }
 
 int main(void) {
@@ -110,9 +110,9 @@ int main(void) {
     found("platform", sheet, sizeof sheet, 1);
     found("weights", sheet, sizeof sheet, 2);
     found("kind 3", sheet, sizeof sheet, 3);
-    joined("joined, one byte short", sizeof sheet, twice, 65);
-    joined("joined with a cut sheet", 57, twice, sizeof twice);
-    both = joined("joined", sizeof sheet, twice, sizeof twice);
+    joined("joined, one byte short", sheet, sizeof sheet, sheet, sizeof sheet, twice, 65);
+    joined("joined with a cut sheet", sheet, sizeof sheet, sheet, 57, twice, sizeof twice);
+    both = joined("joined", sheet, sizeof sheet, sheet, sizeof sheet, twice, sizeof twice);
     printf("  header %d %d %d %d, kinds %d %d\n", twice[0], twice[1], twice[2], twice[3], twice[20], twice[49]);
     answer("plan of it", pulvanor_plan(twice, both.length, four, sizeof four));
     answer("price of 23", pulvanor_price(sheet, sizeof sheet, marks, sizeof marks));

@@ -156,7 +156,7 @@ fn stray_bytes() {
             gaps[gap] = &[0];
             let sheet = of(gaps);
             assert_eq!(sheet::read(&sheet), Err(28));
-            assert_eq!(lookup(&sheet, 3), Err(28));
+            assert_eq!([1, 2, 3].map(|kind| lookup(&sheet, kind)), [Err(28); 3]);
             assert_eq!(plan::plan(&sheet, 0), Err(28));
             assert_eq!(price(&sheet, &[]), Err(28));
             assert_eq!(run::start(&sheet, &[]), Err(28));
@@ -166,14 +166,11 @@ fn stray_bytes() {
             assert_eq!(join(&[], &sheet, 0), Err(1));
         }
     }
-    let [two_platforms, overlap] = [&platform, &weights].map(|second| {
-        let mut sheet = sheet_writer::assembled(2, [&platform, second], [&[], &[], &[0]]);
-        if second == &weights {
-            sheet_writer::put(&mut sheet, sheet_writer::PAIRS[1], 48);
-        }
-        sheet::read(&sheet)
-    });
-    assert_eq!((two_platforms, overlap), (Err(28), Err(5)));
+    let two_platforms = sheet_writer::assembled(2, [&platform, &platform], [&[], &[], &[0]]);
+    assert_eq!(sheet::read(&two_platforms), Err(28));
+    let mut overlap = sheet_writer::assembled(2, [&platform, &weights], [&[], &[], &[0]]);
+    sheet_writer::put(&mut overlap, sheet_writer::PAIRS[1], 48);
+    assert_eq!(sheet::read(&overlap), Err(5));
 }
 
 #[test]

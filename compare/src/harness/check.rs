@@ -89,7 +89,8 @@ impl Check<'_> {
         }
     }
 
-    /// Counts stray bytes by where they are, and by what else is wrong.
+    /// Counts sheets with stray bytes by where these are and by what else is
+    /// wrong, and accepted ones with the weights first.
     fn count_strays(&mut self, number: u64) {
         if !matches!(number, 0 | 5 | 28) {
             return;

@@ -61,7 +61,8 @@ pub struct Printed {
     pub both: u64,
 }
 
-/// Sheets with stray bytes, and their like (request 105).
+/// Sheets with stray bytes, and accepted ones with the weights first (request
+/// 105).
 #[derive(Default)]
 pub struct Strays {
     /// Refused by 28 with one gap alone: before, between or after the sections.

@@ -57,7 +57,7 @@ first-goes-on cs ds n e = go cs (first-clear cs n e)
     go [] h = refl
     go (c ∷ cs) h = rw (h 0) (go cs (λ i. h (suc i)))
 
--- lists that give one number give one after the same conditions
+-- lists that give the same number give the same behind the same conditions
 pub first-after : (front cs ds : List Condition) → first cs ≡ first ds → first (front ++ cs) ≡ first (front ++ ds)
 unfolding first
 first-after [] cs ds e = e

@@ -45,7 +45,7 @@ use Rattle.sheet.specs.Whole.{AreBytes, header}
 use Rattle.sheet.proofs.Sections.{extents-placed, layout-passed, layout-tasks, layout-weights, section-within}
 use Rattle.sheet.proofs.Readings.{sheet-layout, reading-number, reading-job}
 use Rattle.sheet.proofs.Before.{offset-kept}
-use Rattle.sheet.proofs.Whole.{Seams, seams, same-parts}
+use Rattle.sheet.proofs.Whole.{EndToEnd, end-to-end, same-parts}
 
 -- a piece of a list of bytes is one
 piece-bytes : (s : List ℕ) → AreBytes s → (n a : ℕ) → AreBytes (take n (drop a s))
@@ -163,7 +163,7 @@ module _ (s : List ℕ) where
 
   module _ (clear : first (layoutConditions s) ≡ 0) where
     length-header : length (header s) ≡ leastOffset
-    length-header = length-take-le leastOffset s (omega (arith, seams s clear .start, seams s clear .seam, seams s clear .end))
+    length-header = length-take-le leastOffset s (omega (arith, end-to-end s clear .start, end-to-end s clear .next, end-to-end s clear .end))
 
     -- bytes that checks 2 and 4 fix
     form-byte : byteAt s 0 ≡ form
@@ -231,11 +231,11 @@ module _ (s t : List ℕ) (bytes-s : AreBytes s) (bytes-t : AreBytes t) (clear-s
         fields-same (header s) (header t) (piece-bytes s bytes-s leastOffset 0) (piece-bytes t bytes-t leastOffset 0) 4 4
         (length-header s clear-s) (length-header t clear-t) lead fields
       where
-        one : Seams s
-        one = seams s clear-s
+        one : EndToEnd s
+        one = end-to-end s clear-s
 
-        other : Seams t
-        other = seams t clear-t
+        other : EndToEnd t
+        other = end-to-end t clear-t
 
         lead : (i : ℕ) → i < 4 → byteAt (header s) i ≡ byteAt (header t) i
         lead zero h = header-byte s 0 (lit< tt) ∙ (form-byte s clear-s ∙ sym (header-byte t 0 (lit< tt) ∙ form-byte t clear-t))
@@ -248,8 +248,8 @@ module _ (s t : List ℕ) (bytes-s : AreBytes s) (bytes-t : AreBytes t) (clear-s
         fields zero h = header-field s 4 (lit≤ tt) ∙ (one .start ∙ sym (header-field t 4 (lit≤ tt) ∙ other .start))
         fields (suc zero) h = header-field s 8 (lit≤ tt) ∙ (first-size ∙ sym (header-field t 8 (lit≤ tt)))
         fields (suc (suc zero)) h =
-            let seams : fieldAt s 12 ≡ fieldAt t 12 = omega (arith, one .seam, other .seam, one .start, other .start, first-size) in
-            header-field s 12 (lit≤ tt) ∙ (seams ∙ sym (header-field t 12 (lit≤ tt)))
+            let second : fieldAt s 12 ≡ fieldAt t 12 = omega (arith, one .next, other .next, one .start, other .start, first-size) in
+            header-field s 12 (lit≤ tt) ∙ (second ∙ sym (header-field t 12 (lit≤ tt)))
         fields (suc (suc (suc zero))) h = header-field s 16 (lit≤ tt) ∙ (second-size ∙ sym (header-field t 16 (lit≤ tt)))
         fields (suc (suc (suc (suc i)))) h = absurd (omega arith)
 
@@ -287,22 +287,22 @@ other-kind s t clear-s clear-t second = go (orders s clear-s) (orders t clear-t)
     go (inl p) (inr q) = absurd (omega (arith, p .weights-kind, q .platform-kind, second))
     go (inr p) (inl q) = absurd (omega (arith, p .platform-kind, q .weights-kind, second))
 
--- one byte more or less does not swap the sections
+-- one changed byte does not swap the sections
 module _ (s : List ℕ) (i b : ℕ) (clear : first (layoutConditions s) ≡ 0) (clear' : first (layoutConditions (set s i b)) ≡ 0) where
   same-first : kind s 0 ≡ kind (set s i b) 0
   unfolding kind
   same-first = go (ℕ-discrete i leastOffset)
     where
-      one : Seams s
-      one = seams s clear
+      one : EndToEnd s
+      one = end-to-end s clear
 
       go : Dec (i ≡ leastOffset) → kind s 0 ≡ kind (set s i b) 0
       go (no h) =
-          rw (one .start, seams (set s i b) clear' .start) (sym (getD-set-other s i leastOffset b 0 (λ e. h (sym e))))
+          rw (one .start, end-to-end (set s i b) clear' .start) (sym (getD-set-other s i leastOffset b 0 (λ e. h (sym e))))
       go (yes h) =
           other-kind s (set s i b) clear clear'
           (rw (offset-kept s i b (omega arith) 1 (lit< tt))
-          (sym (getD-set-other s i (offset s 1) b 0 (λ e. omega (arith, one .start, one .seam, extents-placed s (layout-passed s clear .extents) .first-placed .some-byte)))))
+          (sym (getD-set-other s i (offset s 1) b 0 (λ e. omega (arith, one .start, one .next, extents-placed s (layout-passed s clear .extents) .first-placed .some-byte)))))
 
 bytes-set : (s : List ℕ) (i b : ℕ) → AreBytes s → b < 2 ^ 8 → AreBytes (set s i b)
 bytes-set s i b bytes h j = go (ℕ-discrete j i) (decLt i (length s))

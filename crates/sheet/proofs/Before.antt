@@ -3,7 +3,7 @@
 use Prim.Native.Nat.{ℕ, _+_, _-_, _*_, _≤_, _<_}
 use mathlib.Core.Path.{_≡_, refl, sym, _∙_, ap}
 use mathlib.Core.Bool.{Bool, true, false, false≢true}
-use mathlib.Core.List.{List, _∷_, _++_}
+use mathlib.Core.List.{List, [], _∷_, _++_}
 use mathlib.Core.Logic.{_⊎_, inl, inr}
 use native.Mathlib.Decide.{decLt}
 use native.Mathlib.Nat.{eq-zero-or-pos}
@@ -14,8 +14,8 @@ use lib.ListN.{take, drop, set, length-set}
 use lib.Seq.{getD-set-other, drop-set-lt, drop-set-add, take-set-le}
 use Rattle.refusals.specs.Numbers
 use Rattle.refusals.specs.Refusals.{Condition, refusal, first, has, distinct, Numbered}
-use Rattle.refusals.proofs.Refusals.{first-stands, first-goes-on, first-none, first-other, first-after}
-use Rattle.job.specs.Checks.{jobConditions}
+use Rattle.refusals.proofs.Refusals.{first-clear, first-stands, first-goes-on, first-other, first-after}
+use Rattle.job.specs.declared.Job.{Job}
 use Rattle.sheet.specs.Bytes.{byteAt, fieldAt, fieldLength}
 use Rattle.sheet.specs.Layout.{
   leastOffset,
@@ -40,7 +40,7 @@ use Rattle.sheet.specs.Layout.{
   layoutConditions,
 }
 use Rattle.sheet.specs.Reading.{jobOf}
-use Rattle.sheet.specs.Whole.{IsStray, HasStray, conditionsTo5, conditionsBefore, BeforeAndNow, Closed}
+use Rattle.sheet.specs.Whole.{IsStray, HasStray, conditionsTo5, conditionsBefore, BeforeAndNow, strayNumber, Closed}
 use Rattle.sheet.proofs.Sections.{index-lt, extents-placed, layout-passed}
 use Rattle.sheet.proofs.Stray.{stray-holds, stray-found}
 
@@ -89,12 +89,9 @@ module _ (s : List ℕ) (after : List Condition) where
       }
 
   -- a sheet with a stray byte is refused, whatever is checked after 6
-  stray-refused : (i : ℕ) → IsStray s i → 0 < first (layoutConditions s ++ after)
-  stray-refused i stray = go (eq-zero-or-pos (first (layoutConditions s ++ after)))
-    where
-      go : (first (layoutConditions s ++ after) ≡ 0) ⊎ (0 < first (layoutConditions s ++ after)) → 0 < first (layoutConditions s ++ after)
-      go (inl e) = absurd (false≢true (sym (layout-passed s (first-none (layoutConditions s) after e) .no-stray) ∙ stray-holds s i stray))
-      go (inr p) = p
+  stray-number : (i : ℕ) → IsStray s i → first (layoutConditions s ++ after) ≡ strayNumber s
+  unfolding first
+  stray-number i stray = rw (stray-holds s i stray) refl
 
 -- a sheet with another byte at i, from 20 on: header, length and places are as they were
 module _ (s : List ℕ) (i b : ℕ) (from : leastOffset ≤ i) where
@@ -206,31 +203,34 @@ module _ (s : List ℕ) (i b : ℕ) (from : leastOffset ≤ i) where
             size-kept (indexOf s weightsKind) (index-lt s weightsKind),
           ) refl
 
-      number-kept : first (conditionsBefore edited ++ jobConditions (jobOf edited)) ≡ first (conditionsBefore s ++ jobConditions (jobOf s))
-      number-kept =
-          rw (values-kept, kinds-kept)
-          (ap (λ cs. first (cs ++ (refusal Numbers.badKinds (badKinds s) ∷ jobConditions (jobOf s)))) to5-kept)
+      place-kept : (k : ℕ) → (offset edited (indexOf edited k) ≡ offset s (indexOf s k)) × (size edited (indexOf edited k) ≡ size s (indexOf s k))
+      place-kept k = rw (index-kept k) (offset-kept (indexOf s k) (index-lt s k), size-kept (indexOf s k) (index-lt s k))
 
-    now-same : (after other : List Condition) → first (layoutConditions edited ++ other) ≡ first (layoutConditions s ++ after)
-    now-same after other = go (eq-zero-or-pos (first (conditionsTo5 s)))
+    -- where one of 1 to 5 holds, it decides; otherwise the kinds and the values are the same
+    number-kept : (after : Job → List Condition) → first (conditionsBefore edited ++ after (jobOf edited)) ≡ first (conditionsBefore s ++ after (jobOf s))
+    number-kept after = go (eq-zero-or-pos (first (conditionsTo5 s)))
       where
-        go : (first (conditionsTo5 s) ≡ 0) ⊎ (0 < first (conditionsTo5 s)) → first (layoutConditions edited ++ other) ≡ first (layoutConditions s ++ after)
+        later : List ℕ → List Condition
+        later t = refusal Numbers.badKinds (badKinds t) ∷ after (jobOf t)
+
+        go : (first (conditionsTo5 s) ≡ 0) ⊎ (0 < first (conditionsTo5 s)) → first (conditionsTo5 edited ++ later edited) ≡ first (conditionsTo5 s ++ later s)
         go (inl clear) =
-            before-and-now edited other .refused (record { at = i; stray = stays }) (ap first to5-kept ∙ clear)
-            ∙ sym (before-and-now s after .refused (record { at = i; stray = stray }) clear)
+            let extents : badExtents s ≡ false = first-clear (conditionsTo5 s) (to5-numbered s []) clear 4 in
+            rw (values-kept extents, kinds-kept extents) (ap (λ cs. first (cs ++ later s)) to5-kept)
         go (inr h) =
-            first-stands (conditionsTo5 edited) (stray-or-kinds edited other) (omega (arith, h, ap first to5-kept))
-            ∙ (ap first to5-kept ∙ sym (first-stands (conditionsTo5 s) (stray-or-kinds s after) h))
+            first-stands (conditionsTo5 edited) (later edited) (omega (arith, h, ap first to5-kept))
+            ∙ (ap first to5-kept ∙ sym (first-stands (conditionsTo5 s) (later s) h))
 
     changed : Closed s edited
     changed =
         record {
           number-before = number-kept;
           values-before = values-kept;
-          refused = λ after. stray-refused s after i stray;
-          same = now-same;
+          place-before = place-kept;
+          refused = λ after. stray-number s after i stray;
+          refused-too = λ after. stray-number edited after i stays ∙ ap (λ cs. first (cs ++ (refusal Numbers.strayByte true ∷ []))) to5-kept;
         }
 
--- a byte that no section covers: before, it could change and no answer told; now every answer is the refusal of a stray byte, or of one of 1 to 5
+-- a byte that no section covers: before, it could change and no answer told; now the answer is the first of 1 to 5 that holds, else 28
 pub stray-closed : (s : List ℕ) (i b : ℕ) → IsStray s i → Closed s (set s i b)
 stray-closed s i b stray = changed s i b (stray .from) stray

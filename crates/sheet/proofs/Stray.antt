@@ -1,4 +1,5 @@
--- Stray bytes: that the definition is the request's words, and that the test of two seams and an end finds them in every sheet that passes 5. Assumes nothing.
+-- Stray bytes: that the definition is the request's words, and that the test of the start, of the border between the sections and of the end finds them in every
+-- sheet that passes 5. Assumes nothing.
 use Prim.Native.Nat.{ℕ, zero, suc, _+_, _≤_, _<_}
 use mathlib.Core.Path.{_≡_, refl}
 use mathlib.Core.Bool.{true, false, not, _&&_, and-false}
@@ -51,7 +52,7 @@ module _ (s : List ℕ) where
   -- sections that follow one another from 20 to the end leave no byte out
   none-stray : offset s 0 ≡ leastOffset → offset s 1 ≡ offset s 0 + size s 0 → length s ≡ offset s 1 + size s 1 → strayByte s ≡ false
   unfolding strayByte covered
-  none-stray start seam end = some-none (length s) _ (λ i h. go i h (decLt i leastOffset) (decLt i (offset s 1)))
+  none-stray start next end = some-none (length s) _ (λ i h. go i h (decLt i leastOffset) (decLt i (offset s 1)))
     where
       inside : (i k : ℕ) → k < sections → offset s k ≤ i → i < offset s k + size s k → (leb leastOffset i && not (some sections (λ j. inSection s j i))) ≡ false
       inside i k l h q = rw (some-holds sections (λ j. inSection s j i) k l (in-place k i h q)) (and-false (leb leastOffset i))
@@ -62,9 +63,9 @@ module _ (s : List ℕ) where
       go i h (no l) (no q) = inside i 1 (lit< tt) (omega arith) (omega arith)
 
   -- of a sheet that passes 5, the first byte of a gap is stray: before the first section, between the two, after the second
-  pub stray-seams : badExtents s ≡ false → strayByte s ≡ not (contiguous s)
+  pub stray-contiguous : badExtents s ≡ false → strayByte s ≡ not (contiguous s)
   unfolding contiguous
-  stray-seams e =
+  stray-contiguous e =
       go (ℕ-discrete (offset s 0) leastOffset) (ℕ-discrete (offset s 1) (offset s 0 + size s 0)) (ℕ-discrete (length s) (offset s 1 + size s 1))
     where
       one : Placed 0 (offset s 0) (size s 0) (length s)
@@ -86,8 +87,8 @@ module _ (s : List ℕ) where
           rw (eq-eqb _ _ start, ne-eqb _ _ h)
           (at (offset s 0 + size s 0) (omega arith) (omega (arith, two .sorted, two .within, two .some-byte))
           (after-it 0 (offset s 0 + size s 0) (omega arith)) (before-it 1 (offset s 0 + size s 0) (omega (arith, two .sorted, h))))
-      go (yes start) (yes seam) (no h) =
-          rw (eq-eqb _ _ start, eq-eqb _ _ seam, ne-eqb _ _ h)
+      go (yes start) (yes next) (no h) =
+          rw (eq-eqb _ _ start, eq-eqb _ _ next, ne-eqb _ _ h)
           (at (offset s 1 + size s 1) (omega (arith, two .from-least)) (omega (arith, two .within, h))
           (after-it 0 (offset s 1 + size s 1) (omega arith)) (after-it 1 (offset s 1 + size s 1) (omega arith)))
-      go (yes start) (yes seam) (yes end) = rw (eq-eqb _ _ start, eq-eqb _ _ seam, eq-eqb _ _ end) (none-stray start seam end)
+      go (yes start) (yes next) (yes end) = rw (eq-eqb _ _ start, eq-eqb _ _ next, eq-eqb _ _ end) (none-stray start next end)

@@ -1,5 +1,5 @@
--- What an accepted sheet is made of. Past 28 its sections stand end to end (`stray-seams`), and a list that is cut at their seams is the header and the two of
--- them. Assumes nothing.
+-- What an accepted sheet is made of. Past 28 its sections stand end to end (`stray-contiguous`), and a list that is cut where they begin is the header and the two
+-- of them. Assumes nothing.
 use Prim.Native.Nat.{ℕ, _+_, _≤_, _<_}
 use mathlib.Core.Path.{_≡_, refl, sym, _∙_}
 use mathlib.Core.Bool.{true}
@@ -14,7 +14,7 @@ use Rattle.refusals.specs.Refusals.{first}
 use Rattle.sheet.specs.Layout.{leastOffset, offset, size, section, covered, strayByte, contiguous, layoutConditions}
 use Rattle.sheet.specs.Whole.{header, Whole}
 use Rattle.sheet.proofs.Sections.{layout-passed}
-use Rattle.sheet.proofs.Stray.{stray-seams}
+use Rattle.sheet.proofs.Stray.{stray-contiguous}
 
 -- a list in three pieces
 in-three : (l : List ℕ) (a b c : ℕ) → length l ≡ a + b + c → l ≡ take a l ++ (take b (drop a l) ++ take c (drop (a + b) l))
@@ -24,26 +24,26 @@ in-three l a b c e =
     sym (rw (last, rest) (take-append-drop a l))
 
 -- sections that follow one another from byte 20 to the end
-pub record Seams (s : List ℕ) : Type 0 where
+pub record EndToEnd (s : List ℕ) : Type 0 where
   pub start : offset s 0 ≡ leastOffset
-  pub seam : offset s 1 ≡ offset s 0 + size s 0
+  pub next : offset s 1 ≡ offset s 0 + size s 0
   pub end : length s ≡ offset s 1 + size s 1
 
 module _ (s : List ℕ) (clear : first (layoutConditions s) ≡ 0) where
-  pub seams : Seams s
+  pub end-to-end : EndToEnd s
   unfolding contiguous
-  seams =
+  end-to-end =
       let passed = layout-passed s clear in
-      let all = not-false (contiguous s) (sym (stray-seams s (passed .extents)) ∙ passed .no-stray) in
+      let all = not-false (contiguous s) (sym (stray-contiguous s (passed .extents)) ∙ passed .no-stray) in
       let start = and-holds (eqb (offset s 0) leastOffset) _ all in
-      let seam = and-holds (eqb (offset s 1) (offset s 0 + size s 0)) _ (start .1) in
-      record { start = eqb-true _ _ (start .0); seam = eqb-true _ _ (seam .0); end = eqb-true _ _ (seam .1) }
+      let next = and-holds (eqb (offset s 1) (offset s 0 + size s 0)) _ (start .1) in
+      record { start = eqb-true _ _ (start .0); next = eqb-true _ _ (next .0); end = eqb-true _ _ (next .1) }
 
   three-parts : s ≡ header s ++ (section s 0 ++ section s 1)
   unfolding section
   three-parts =
-      let pieces = in-three s leastOffset (size s 0) (size s 1) (omega (arith, seams .start, seams .seam, seams .end)) in
-      rw (seams .seam, seams .start) pieces
+      let pieces = in-three s leastOffset (size s 0) (size s 1) (omega (arith, end-to-end .start, end-to-end .next, end-to-end .end)) in
+      rw (end-to-end .next, end-to-end .start) pieces
 
   each-covered : (i : ℕ) → leastOffset ≤ i → i < length s → covered s i ≡ true
   unfolding strayByte

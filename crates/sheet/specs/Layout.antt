@@ -103,7 +103,7 @@ covered s i = some sections (λ k. inSection s k i)
 unfoldable pub strayByte : List ℕ → Bool
 strayByte s = some (length s) (λ i. leb leastOffset i && not (covered s i))
 
--- 'Sections now follow one another directly from byte 20, and the last ends with the sheet': past 5, that there is no such byte (`stray-seams`)
+-- 'Sections now follow one another directly from byte 20, and the last ends with the sheet': past 5, that there is no such byte (`stray-contiguous`)
 unfoldable pub contiguous : List ℕ → Bool
 contiguous s =
     eqb (offset s 0) leastOffset

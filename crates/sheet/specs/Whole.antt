@@ -6,11 +6,14 @@ use mathlib.Core.List.{List, [], _∷_, _++_}
 use lib.ListN.{length, take}
 use Rattle.refusals.specs.Numbers
 use Rattle.refusals.specs.Refusals.{Condition, refusal, first, has}
-use Rattle.job.specs.Checks.{jobConditions}
+use Rattle.job.specs.declared.Job.{Job}
 use Rattle.sheet.specs.Bytes.{byteAt}
 use Rattle.sheet.specs.Layout.{
   leastOffset,
   sections,
+  offset,
+  size,
+  indexOf,
   section,
   badExtents,
   inSection,
@@ -50,19 +53,25 @@ pub record BeforeAndNow (s : List ℕ) (after : List Condition) : Type 0 where
       → first (front ++ (layoutConditions s ++ after)) ≡ first (front ++ (conditionsBefore s ++ after))
   -- one with a stray byte that passes 1 to 5 gets 28
   pub refused : HasStray s → first (conditionsTo5 s) ≡ 0 → first (layoutConditions s ++ after) ≡ Numbers.strayByte
-  -- and no other does
+  -- and no other does, where no check after 6 has that number (in a join, those of the second sheet have it)
   pub only : has Numbers.strayByte after ≡ false → first (layoutConditions s ++ after) ≡ Numbers.strayByte
       → (first (conditionsTo5 s) ≡ 0) × HasStray s
 
+-- the number of a sheet that has a stray byte: the first of 1 to 5 that holds, else 28
+abbrev pub strayNumber : List ℕ → ℕ
+strayNumber s = first (conditionsTo5 s ++ (refusal Numbers.strayByte true ∷ []))
+
 -- a sheet s, and t, which differs from it in a stray byte alone
 pub record Closed (s t : List ℕ) : Type 0 where
-  -- before the request nothing told them apart, if they passed 5: the same number, the same values
-  pub number-before : badExtents s ≡ false
-      → first (conditionsBefore t ++ jobConditions (jobOf t)) ≡ first (conditionsBefore s ++ jobConditions (jobOf s))
+  -- before the request no answer told them apart: the same number, whatever was asked of the values after 6; and, unless 5 holds, the same values, and a
+  -- section of each kind in the same place
+  pub number-before : (after : Job → List Condition) → first (conditionsBefore t ++ after (jobOf t)) ≡ first (conditionsBefore s ++ after (jobOf s))
   pub values-before : badExtents s ≡ false → jobOf t ≡ jobOf s
-  -- now both are refused, with one number, whatever is checked after 6
-  pub refused : (after : List Condition) → 0 < first (layoutConditions s ++ after)
-  pub same : (after other : List Condition) → first (layoutConditions t ++ other) ≡ first (layoutConditions s ++ after)
+  pub place-before : badExtents s ≡ false → (k : ℕ)
+      → (offset t (indexOf t k) ≡ offset s (indexOf s k)) × (size t (indexOf t k) ≡ size s (indexOf s k))
+  -- now both are refused, by the same number, whatever is checked after 6
+  pub refused : (after : List Condition) → first (layoutConditions s ++ after) ≡ strayNumber s
+  pub refused-too : (after : List Condition) → first (layoutConditions t ++ after) ≡ strayNumber s
 
 -- the header: the bytes before 20
 abbrev pub header : List ℕ → List ℕ

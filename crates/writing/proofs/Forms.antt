@@ -44,7 +44,7 @@ use Rattle.sheet.specs.Layout.{
   layoutConditions,
 }
 use Rattle.sheet.specs.Reading.{sectionField, platformOf, weightsOf, jobOf, readingOf}
-use Rattle.sheet.proofs.Stray.{stray-seams}
+use Rattle.sheet.proofs.Stray.{stray-contiguous}
 use Rattle.sheet.proofs.Readings.{sheet-goes-on, reading-accepted}
 use Rattle.writing.specs.Form.{fieldBytes, fields, platformStart, weightsStart, platformFields, platformSection, weightsSection, formOne}
 use Rattle.writing.proofs.Fields.{field-read, length-fields, field-after, fields-read}
@@ -179,7 +179,7 @@ module _ (p : Platform) (w : List ℕ) where
     pub no-stray : strayByte (formOne p w) ≡ false
     unfolding contiguous
     no-stray =
-        stray-seams (formOne p w) right-extents
+        stray-contiguous (formOne p w) right-extents
         ∙ rw (
           platform-offset p w,
           platform-size p w,

@@ -1,4 +1,4 @@
--- `sheet::layout::is_contiguous` meets its contract. The seams in their order: each return rewrites the definition by the tests before it. Assumes nothing.
+-- `sheet::layout::is_contiguous` meets its contract. The start, the border and the end in their order: each return rewrites the definition by the tests before it. Assumes nothing.
 use borrow.Author.Tests.{eq-eqb, ne-eqb}
 use Rattle.sheet.specs.Layout.{contiguous}
 use borrow.Author.Needs.{needs}

@@ -3,7 +3,7 @@
 use mathlib.Core.Path.{sym, _∙_, ap}
 use mathlib.Core.Bool.{not}
 use Rattle.refusals.proofs.Refusals.{refused-here, refused-later, refused-none}
-use Rattle.sheet.proofs.Stray.{stray-seams}
+use Rattle.sheet.proofs.Stray.{stray-contiguous}
 use borrow.Author.Needs.{needs}
 use Rattle.sheet.proofs.layout.section_refusal.Statement.{statement}
 use Rattle.sheet.proofs.layout.section_refusal.Tie as tie
@@ -27,7 +27,7 @@ returns-2 c =
     let bad-extents = c .before .before .before .before .bad-extents in
     let is-contiguous = c .before .before .before .is-contiguous in
     let if1 = c .before .if1 in
-    let stray = ap not (is-contiguous .ensures) ∙ sym (stray-seams _ (sym (bad-extents .ensures) ∙ if1 .left)) in
+    let stray = ap not (is-contiguous .ensures) ∙ sym (stray-contiguous _ (sym (bad-extents .ensures) ∙ if1 .left)) in
     refused-later _ _ (bad-extents .ensures) (if1 .left) (refused-here _ _ stray (c .if2 .taken))
 
 returns-3 : tie.Need-returns-3
@@ -37,7 +37,7 @@ returns-3 c =
     let bad-kinds = c .before .before .before .bad-kinds in
     let if1 = c .before .before .if1 in
     let if2 = c .before .if2 in
-    let stray = ap not (is-contiguous .ensures) ∙ sym (stray-seams _ (sym (bad-extents .ensures) ∙ if1 .left)) in
+    let stray = ap not (is-contiguous .ensures) ∙ sym (stray-contiguous _ (sym (bad-extents .ensures) ∙ if1 .left)) in
     refused-later _ _ (bad-extents .ensures) (if1 .left)
     (refused-later _ _ stray (if2 .left) (refused-here _ _ (bad-kinds .ensures) (c .if3 .taken)))
 
@@ -48,7 +48,7 @@ returns-4 c =
     let bad-kinds = c .before .before .before .bad-kinds in
     let if1 = c .before .before .if1 in
     let if2 = c .before .if2 in
-    let stray = ap not (is-contiguous .ensures) ∙ sym (stray-seams _ (sym (bad-extents .ensures) ∙ if1 .left)) in
+    let stray = ap not (is-contiguous .ensures) ∙ sym (stray-contiguous _ (sym (bad-extents .ensures) ∙ if1 .left)) in
     refused-later _ _ (bad-extents .ensures) (if1 .left)
     (refused-later _ _ stray (if2 .left) (refused-later _ _ (bad-kinds .ensures) (c .if3 .left) refused-none))
 
