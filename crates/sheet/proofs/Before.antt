@@ -2,7 +2,7 @@
 -- on moves none of them; a byte that is outside a section moves none of its bytes either. Assumes nothing.
 use Prim.Native.Nat.{ℕ, _+_, _-_, _*_, _≤_, _<_}
 use mathlib.Core.Path.{_≡_, refl, sym, _∙_, ap}
-use mathlib.Core.Bool.{Bool, true, false, false≢true}
+use mathlib.Core.Bool.{Bool, true, false}
 use mathlib.Core.List.{List, [], _∷_, _++_}
 use mathlib.Core.Logic.{_⊎_, inl, inr}
 use native.Mathlib.Decide.{decLt}
@@ -41,8 +41,12 @@ use Rattle.sheet.specs.Layout.{
 }
 use Rattle.sheet.specs.Reading.{jobOf}
 use Rattle.sheet.specs.Whole.{IsStray, HasStray, conditionsTo5, conditionsBefore, BeforeAndNow, strayNumber, Closed}
-use Rattle.sheet.proofs.Sections.{index-lt, extents-placed, layout-passed}
+use Rattle.sheet.proofs.Sections.{index-lt, extents-placed}
 use Rattle.sheet.proofs.Stray.{stray-holds, stray-found}
+
+to5-numbered : (s : List ℕ) → Numbered (conditionsTo5 s)
+unfolding has distinct
+to5-numbered s = refl
 
 module _ (s : List ℕ) (after : List Condition) where
   abbrev kinds : List Condition
@@ -50,10 +54,6 @@ module _ (s : List ℕ) (after : List Condition) where
 
   abbrev stray-or-kinds : List Condition
   stray-or-kinds = refusal Numbers.strayByte (strayByte s) ∷ kinds
-
-  to5-numbered : Numbered (conditionsTo5 s)
-  unfolding has distinct
-  to5-numbered = refl
 
   -- without a stray byte the new condition decides nothing
   not-stray : strayByte s ≡ false → first (layoutConditions s ++ after) ≡ first (conditionsBefore s ++ after)
@@ -75,7 +75,7 @@ module _ (s : List ℕ) (after : List Condition) where
       by-stray q false h = absurd (first-other Numbers.strayByte kinds (lit< tt) none (rw h at q))
 
       go : (first (conditionsTo5 s) ≡ 0) ⊎ (0 < first (conditionsTo5 s)) → (first (conditionsTo5 s) ≡ 0) × HasStray s
-      go (inl clear) = (clear, by-stray (sym (first-goes-on (conditionsTo5 s) stray-or-kinds to5-numbered clear) ∙ e) (strayByte s) refl)
+      go (inl clear) = (clear, by-stray (sym (first-goes-on (conditionsTo5 s) stray-or-kinds (to5-numbered s) clear) ∙ e) (strayByte s) refl)
       go (inr h) = absurd (first-other Numbers.strayByte (conditionsTo5 s) (lit< tt) refl (sym (first-stands (conditionsTo5 s) stray-or-kinds h) ∙ e))
 
   pub before-and-now : BeforeAndNow s after
@@ -84,7 +84,7 @@ module _ (s : List ℕ) (after : List Condition) where
         earlier = λ h. first-stands (conditionsTo5 s) stray-or-kinds h ∙ sym (first-stands (conditionsTo5 s) kinds h);
         as-before = λ e front. first-after front _ _ (not-stray e);
         refused = λ found clear.
-            first-goes-on (conditionsTo5 s) stray-or-kinds to5-numbered clear ∙ stray-given (stray-holds s (found .at) (found .stray));
+            first-goes-on (conditionsTo5 s) stray-or-kinds (to5-numbered s) clear ∙ stray-given (stray-holds s (found .at) (found .stray));
         only = stray-only;
       }
 
@@ -151,7 +151,7 @@ module _ (s : List ℕ) (i b : ℕ) (from : leastOffset ≤ i) where
     unfolding inSection
     outside k h l = ltb-false i (offset s k + size s k) (rw (le-leb (offset s k) i l) at (stray .in-none k h))
 
-    -- so that the bytes of a section are those before
+    -- so the bytes of each section are as they were
     section-kept : (k : ℕ) → k < sections → section edited k ≡ section s k
     unfolding section
     section-kept k h = rw (offset-kept k h, size-kept k h) (go (decLt i (offset s k)))
@@ -215,7 +215,7 @@ module _ (s : List ℕ) (i b : ℕ) (from : leastOffset ≤ i) where
 
         go : (first (conditionsTo5 s) ≡ 0) ⊎ (0 < first (conditionsTo5 s)) → first (conditionsTo5 edited ++ later edited) ≡ first (conditionsTo5 s ++ later s)
         go (inl clear) =
-            let extents : badExtents s ≡ false = first-clear (conditionsTo5 s) (to5-numbered s []) clear 4 in
+            let extents : badExtents s ≡ false = first-clear (conditionsTo5 s) (to5-numbered s) clear 4 in
             rw (values-kept extents, kinds-kept extents) (ap (λ cs. first (cs ++ later s)) to5-kept)
         go (inr h) =
             first-stands (conditionsTo5 edited) (later edited) (omega (arith, h, ap first to5-kept))
