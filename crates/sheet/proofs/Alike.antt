@@ -44,7 +44,7 @@ use Rattle.sheet.specs.declared.JobReading.{JobReading}
 use Rattle.sheet.specs.Whole.{AreBytes, header}
 use Rattle.sheet.proofs.Sections.{extents-placed, layout-passed, layout-tasks, layout-weights, section-within}
 use Rattle.sheet.proofs.Readings.{sheet-layout, reading-number, reading-job}
-use Rattle.sheet.proofs.Before.{offset-kept}
+use Rattle.sheet.proofs.Before.{field-agrees, offset-kept}
 use Rattle.sheet.proofs.Whole.{EndToEnd, end-to-end, same-parts}
 
 -- a piece of a list of bytes is one
@@ -158,8 +158,7 @@ module _ (s : List ℕ) where
   header-byte i h = getD-take leastOffset s i 0 h
 
   header-field : (a : ℕ) → a + fieldLength ≤ leastOffset → fieldAt (header s) a ≡ fieldAt s a
-  header-field a h =
-      rw (header-byte a (omega arith), header-byte (a + 1) (omega arith), header-byte (a + 2) (omega arith), header-byte (a + 3) (omega arith)) refl
+  header-field a h = field-agrees (header s) s a (λ j l. header-byte j (omega arith))
 
   module _ (clear : first (layoutConditions s) ≡ 0) where
     length-header : length (header s) ≡ leastOffset

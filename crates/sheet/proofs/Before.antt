@@ -93,6 +93,10 @@ module _ (s : List ℕ) (after : List Condition) where
   unfolding first
   stray-number i stray = rw (stray-holds s i stray) refl
 
+-- lists that agree up to the end of a field have the same field
+pub field-agrees : (p q : List ℕ) (a : ℕ) → ((j : ℕ) → j < a + fieldLength → byteAt p j ≡ byteAt q j) → fieldAt p a ≡ fieldAt q a
+field-agrees p q a same = rw (same a (omega arith), same (a + 1) (omega arith), same (a + 2) (omega arith), same (a + 3) (omega arith)) refl
+
 -- a sheet with another byte at i, from 20 on: header, length and places are as they were
 module _ (s : List ℕ) (i b : ℕ) (from : leastOffset ≤ i) where
   abbrev edited : List ℕ
@@ -102,8 +106,7 @@ module _ (s : List ℕ) (i b : ℕ) (from : leastOffset ≤ i) where
   byte-kept a h = getD-set-other s i a b 0 (λ e. omega arith)
 
   field-kept : (a : ℕ) → a + fieldLength ≤ i → fieldAt edited a ≡ fieldAt s a
-  field-kept a h =
-      rw (byte-kept a (omega arith), byte-kept (a + 1) (omega arith), byte-kept (a + 2) (omega arith), byte-kept (a + 3) (omega arith)) refl
+  field-kept a h = field-agrees edited s a (λ j l. byte-kept j (omega arith))
 
   pub offset-kept : (k : ℕ) → k < sections → offset edited k ≡ offset s k
   unfolding offset
