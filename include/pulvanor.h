@@ -27,9 +27,10 @@ extern "C" {
 #define PULVANOR_PRINTED 8                    /* the most tasks for the equations as printed */
 #define PULVANOR_SHEET 4096                   /* the most bytes of a sheet */
 #define PULVANOR_RECORD 5                     /* the bytes of a log's record */
-#define PULVANOR_TIME ((1ULL << 34) - 1)      /* the longest time that is given */
+#define PULVANOR_POWER 16                     /* the highest power */
+#define PULVANOR_TIME ((1ULL << 34) - 1)      /* the longest time and the most energy that is given */
 
-/* 0 and a time in ticks, or a refusal and time 0. */
+/* 0 and a time in ticks, or a refusal and time 0. A plan by energy has its energy in place of the time. */
 struct pulvanor_answer {
     uint64_t number;
     uint64_t time;
@@ -126,7 +127,17 @@ struct pulvanor_answer pulvanor_price(const uint8_t *sheet, size_t sheet_length,
    slow). A refusal writes no byte, and later bytes are never touched. */
 struct pulvanor_answer pulvanor_plan(const uint8_t *sheet, size_t sheet_length, uint8_t *buffer, size_t buffer_length);
 
-/* The same by the equations of section 3.1 of source document 000 as printed, which ask each other and keep
+/* The same by energy: `computing` is the power at which computing and verifying are billed, `saving` that of
+   saving and recovering, and `time` in the answer is the least energy of all allowed settings, in ticks times
+   units of power. The work of a stretch, with what fail-stop errors add to it, and V cost the first power a
+   tick; C_M, C_D, R_M and R_D cost the second. The same settings are allowed as for pulvanor_plan, and by the
+   powers 1 and 1 number, figure and every byte of the buffer are those of pulvanor_plan. Refusals 1 to 8, 29
+   (a power is not 1 to 16, or a product above 2^30: the total weight or V with the first power, C_D, C_M, R_D
+   or R_M with the second), 11 and 13 (every allowed setting takes more than 2^34 - 1 in energy), in this order.
+   Every value of a power is taken. A refusal writes no byte, and later bytes are never touched. */
+struct pulvanor_answer pulvanor_energy(const uint8_t *sheet, size_t sheet_length, uint64_t computing, uint64_t saving, uint8_t *buffer, size_t buffer_length);
+
+/* The plan by the equations of section 3.1 of source document 000 as printed, which ask each other and keep
    nothing. Refusals 1 to 8, 27 (more than 8 tasks), 11 and 13, in this order. But for 27 the number, the time
    and every byte of the buffer are those of pulvanor_plan; a refusal, 27 too, has time 0 and writes no byte.
    The work grows more than threefold with each task, to some 10 milliseconds for 8. */

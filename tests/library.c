@@ -24,11 +24,19 @@ static void outcome(const char *name, struct pulvanor_outcome o) {
 
 typedef struct pulvanor_answer planner(const uint8_t *, size_t, uint8_t *, size_t);
 
-/* The plan of a sheet into a buffer of 9s, by one of the two planners. */
+/* The plan of a sheet into a buffer of 9s, by one of the planners of time. */
 static void planned(const char *name, planner *plan, const uint8_t *bytes, size_t length, size_t room) {
     uint8_t buffer[4] = {9, 9, 9, 9};
     answer(name, plan(bytes, length, buffer, room));
     printf("  buffer %d %d %d %d\n", buffer[0], buffer[1], buffer[2], buffer[3]);
+}
+
+/* The plan by energy of a sheet into a buffer of 9s. */
+static void by_energy(const char *name, const uint8_t *bytes, size_t length, uint64_t computing, uint64_t saving, size_t room) {
+    uint8_t buffer[6] = {9, 9, 9, 9, 9, 9};
+    struct pulvanor_answer a = pulvanor_energy(bytes, length, computing, saving, buffer, room);
+    printf("%s: number %llu, energy %llu\n", name, (unsigned long long)a.number, (unsigned long long)a.time);
+    printf("  buffer %d %d %d %d %d %d\n", buffer[0], buffer[1], buffer[2], buffer[3], buffer[4], buffer[5]);
 }
 
 static void found(const char *name, const uint8_t *bytes, size_t length, uint64_t kind) {
@@ -58,6 +66,26 @@ static void nine_tasks(uint8_t *bytes) {
     bytes[16] = 1 + 4 * 9;
 }
 
+/* Plans by energy: of sheet A, and of four tasks whose marks differ from those of the least time. */
+static void energies(void) {
+    static const uint8_t four[66] = {
+        1, 4, 2, 0, 20, 0, 0, 0, 29, 0, 0, 0, 49, 0, 0, 0, 17, 0, 0, 0,
+        1, 0, 0, 0, 4, 0, 0, 0, 16, 224, 147, 4, 0, 96, 234, 0, 0, 40, 35, 0, 0, 64, 13, 3, 0, 112, 17, 1, 0,
+        2, 7, 0, 16, 0, 41, 161, 7, 0, 97, 174, 10, 0, 167, 187, 13, 0,
+    };
+    by_energy("energy, powers 1 and 1", sheet, sizeof sheet, 1, 1, 6);
+    by_energy("energy, powers 2 and 3", sheet, sizeof sheet, 2, 3, 6);
+    planned("plan of four tasks", pulvanor_plan, four, sizeof four, 4);
+    by_energy("energy of them, powers 3 and 5", four, sizeof four, 3, 5, 6);
+    by_energy("energy of them, powers 5 and 3", four, sizeof four, 5, 3, 6);
+    by_energy("energy, power 0", sheet, sizeof sheet, 0, 1, 6);
+    by_energy("energy, power 17 and a short buffer", sheet, sizeof sheet, 1, 17, 1);
+    by_energy("energy, power 2^32 + 1", sheet, sizeof sheet, (1ULL << 32) + 1, 1, 6);
+    by_energy("energy, power 2^64 - 1", sheet, sizeof sheet, 1, UINT64_MAX, 6);
+    by_energy("energy, short buffer", sheet, sizeof sheet, 2, 3, 1);
+    by_energy("energy, a cut sheet and power 0", sheet, 57, 0, 0, 1);
+}
+
 /* Whether every field of a state is 0. */
 static int all_zero(const struct pulvanor_run *r) {
     const struct pulvanor_platform *p = &r->job.platform;
@@ -83,6 +111,7 @@ static void stray_byte(void) {
     joined("stray byte, joined as the second", sheet, sizeof sheet, longer, sizeof longer, buffer, sizeof buffer);
     answer("stray byte, price of 23", pulvanor_price(longer, sizeof longer, marks, sizeof marks));
     planned("stray byte, plan", pulvanor_plan, longer, sizeof longer, 4);
+    by_energy("stray byte, energy", longer, sizeof longer, 0, 0, 6);
     planned("stray byte, printed", pulvanor_printed, longer, sizeof longer, 4);
     o = pulvanor_start(longer, sizeof longer, marks, sizeof marks);
     outcome("stray byte, start", o);
@@ -126,6 +155,7 @@ int main(void) {
     nine_tasks(nine);
     planned("printed, 9 tasks and a short buffer", pulvanor_printed, nine, sizeof nine, 4);
     planned("plan of them", pulvanor_plan, nine, sizeof nine, 4);
+    energies();
     stray_byte();
     outcome("start", start);
     for (t = 2; t < PULVANOR_TASKS; t++)

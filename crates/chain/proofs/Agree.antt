@@ -31,7 +31,7 @@ module _ (f g : Marks) where
         times-agree s c (last disk g v) (λ j p h. e j p (omega (arith, last-le disk g v))),
       )
 
-  D-agree : (c : Chain) (v : ℕ) → ((j : ℕ) → 0 < j → j < v → f j ≡ g j) → D c f v ≡ D c g v
+  pub D-agree : (c : Chain) (v : ℕ) → ((j : ℕ) → 0 < j → j < v → f j ≡ g j) → D c f v ≡ D c g v
   unfolding D
   D-agree c v e = rw (times-agree v c v e)
 
@@ -40,7 +40,7 @@ module _ (f g : Marks) where
   listed-agree k zero e = refl
   listed-agree k (suc v) e = rw (e (suc v) (omega arith) (omega arith), listed-agree k v (λ j p h. e j p (omega arith)))
 
-  allowed-agree : (c : Chain) (n : ℕ) → 0 < n → ((j : ℕ) → 0 < j → j ≤ n → f j ≡ g j) → Allowed c n f → Allowed c n g
+  pub allowed-agree : (c : Chain) (n : ℕ) → 0 < n → ((j : ℕ) → 0 < j → j ≤ n → f j ≡ g j) → Allowed c n f → Allowed c n g
   allowed-agree c n h e s =
       record {
         setting = record {

@@ -1,12 +1,12 @@
-// What the programs print and read: words and numbers on lines, a plan, marks as text, the sheet on standard input and marks in an argument.
+// What the programs print and read: words and numbers on lines, a plan, marks as text, the sheet on standard input, and marks or a number in an argument.
 ghost use mathlib.Core.Path.{_≡_};
 ghost use mathlib.Core.Bool.{true, false, not};
-ghost use Prim.Native.Nat.{_≤_};
+ghost use Prim.Native.Nat.{_+_, _*_, _≤_, _<_};
 ghost use lib.ListN.{length};
 ghost use Rattle.io.specs.Counts.{Counts};
 ghost use Rattle.lists.specs.Lists.{some};
 ghost use Rattle.job.specs.Job.{taskLimit};
-ghost use Rattle.console.specs.Digits.{noDigit, TextOf, MarksOf};
+ghost use Rattle.console.specs.Digits.{base, noDigit, TextOf, MarksOf, numberTo, inWord, NumberOf};
 use job::TASK_LIMIT;
 use libc::STDIN_FILENO;
 use libc::STDOUT_FILENO;
@@ -21,6 +21,11 @@ const NINE: u8 = b'9';
 
 // Digits are decimal.
 const BASE: u8 = 10;
+
+const WORD_BASE: u64 = 10;
+
+// The greatest number of 64 bits.
+const WORD_MOST: u64 = 18_446_744_073_709_551_615;
 
 // The digit of each mark.
 pub fn digits(marks: [u8; TASK_LIMIT]) -> [u8; TASK_LIMIT]
@@ -76,6 +81,60 @@ pub fn to_marks(text: &mut [u8]) -> bool
     false
 }
 
+// A number read from a text; it failed where the text is none.
+pub struct Number {
+    pub value: u64,
+    pub failed: bool,
+}
+
+// The number n with one digit more, or the greatest of 64 bits where it passes that.
+fn with_digit(n: u64, digit: u8) -> u64
+    requires { ⌜ digit < base ⌝ }
+    ensures { λ r. ⌜ r ≡ inWord (base * n + digit) ⌝ }
+{
+    let digit = digit as u64;
+    if (WORD_MOST - digit) / WORD_BASE < n {
+        return WORD_MOST;
+    }
+    WORD_BASE * n + digit
+}
+
+// The number that a text of digits gives.
+fn value_of(text: &[u8]) -> u64
+    requires { ⌜ some (length (now text)) (noDigit (now text)) ≡ false ⌝ }
+    ensures { λ r. ⌜ r ≡ inWord (numberTo (now (text .entry)) (length (now (text .entry)))) ⌝ }
+{
+    let mut n: u64 = 0;
+    let mut j: usize = 0;
+    while j < text.len() {
+        n = with_digit(n, text[j] - ZERO);
+        j += 1;
+    }
+    n
+}
+
+// The number that a text gives.
+pub fn to_number(text: &[u8]) -> Number
+    ensures { λ r. ⌜ NumberOf (now (text .entry)) r ⌝ }
+{
+    if text.len() == 0 {
+        return Number {
+            value: 0,
+            failed: true,
+        };
+    }
+    if is_digits(text) {
+        return Number {
+            value: value_of(text),
+            failed: false,
+        };
+    }
+    Number {
+        value: 0,
+        failed: true,
+    }
+}
+
 // A line of text, to a file.
 pub fn line_to(file: i32, words: &[u8]) {
     io::write_all(file, words);
@@ -100,21 +159,27 @@ pub fn numbered(word: &[u8], n: u64) {
     numbered_to(STDOUT_FILENO, word, n);
 }
 
+// What is wrong, and with which argument or file, on one line, to a file.
+pub fn complain_to(file: i32, words: &[u8], which: &[u8]) {
+    io::write_all(file, words);
+    line_to(file, which);
+}
+
 // The answer to a call that was refused.
 pub fn refused(number: u64) {
     numbered(b"refused", number);
 }
 
-// The answer of a planner: the time, then one digit for each of n tasks; or the number of its refusal. The programs call this with the task count of a sheet, which
-// is in range where there is a plan.
-pub fn plan(answer: Answer, marks: [u8; TASK_LIMIT], n: usize)
+// The answer of a planner: the word for its figure and the figure, then one digit for each of n tasks; or the number of its refusal. The programs call this with
+// the task count of a sheet, which is in range where there is a plan.
+pub fn plan(word: &[u8], answer: Answer, marks: [u8; TASK_LIMIT], n: usize)
     requires { ⌜ (answer .number ≡ 0 → n ≤ taskLimit) ⌝ }
 {
     if answer.number != 0 {
         refused(answer.number);
         return;
     }
-    numbered(b"time", answer.time);
+    numbered(word, answer.time);
     io::write_all(STDOUT_FILENO, b"marks ");
     let text = digits(marks);
     line(&text[..n]);
@@ -170,4 +235,27 @@ pub fn read_marks(text: &mut [u8]) -> Taken
     }
     line(b"not digits: marks");
     Taken { n, failed: true }
+}
+
+// The number that argument i gives in digits; one that is missing, too long or no number has its line.
+pub fn read_number(i: usize, which: &[u8]) -> Number {
+    let mut text = [0u8; ARGUMENT_ROOM];
+    let none = Number {
+        value: 0,
+        failed: true,
+    };
+    if os::arg_count() <= i {
+        complain_to(STDOUT_FILENO, b"missing argument: ", which);
+        return none;
+    }
+    let n = os::arg(i, &mut text);
+    if os::errno() != 0 {
+        complain_to(STDOUT_FILENO, b"argument too long: ", which);
+        return none;
+    }
+    let number = to_number(&text[..n]);
+    if number.failed {
+        complain_to(STDOUT_FILENO, b"not a number: ", which);
+    }
+    number
 }

@@ -1,3 +1,4 @@
 pub mod Costs
 pub mod Stretch
+pub mod Energy
 pub mod Working

@@ -4,8 +4,9 @@ ghost use mathlib.Core.Bool.{cond};
 ghost use lib.Dec.{eqb};
 ghost use Prim.Native.Nat.{_≤_};
 ghost use Rattle.costs.specs.Costs.{vAt, cmAt, cdAt, rdAt, rmAt, verifyPaid, savesPaid};
+ghost use Rattle.costs.specs.Energy.{plain};
 ghost use Rattle.costs.specs.Working.Costs.{CostIs};
-ghost use Rattle.costs.specs.Working.Factors.{factorsOf, ReadyForFactors};
+ghost use Rattle.costs.specs.Working.Factors.{factorsOf, energyFactorsOf, ReadyForFactors, ReadyForEnergy};
 use chain::Factors;
 use job::Job;
 use job::Platform;
@@ -83,18 +84,46 @@ pub fn saves_paid(job: Job, mark: u8, v: usize) -> u64
     paid(pays.cm, cm_at(job, v)) + paid(pays.cd, cd_at(job, v))
 }
 
-// The growth sums of a stretch of this weight, whose far end costs `v` to verify. Weight and cost have passed check 7, and with the caps of G and H each product is below 2^64.
-pub fn stretch_factors(p: Platform, weight: u64, v: u64) -> Factors
-    requires { ⌜ ReadyForFactors weight v ⌝ }
-    ensures { λ r. ⌜ r ≡ factorsOf p weight v ⌝ }
+// The powers at which a centre bills energy (request 106): one for computing and verifying, one for saving and recovering.
+pub struct Powers {
+    pub computing: u64,
+    pub saving: u64,
+}
+
+impl Powers {
+    // The powers 1 and 1, by which energy is time.
+    pub fn plain() -> Powers
+        ensures { λ r. ⌜ r ≡ plain ⌝ }
+    {
+        Powers {
+            computing: 1,
+            saving: 1,
+        }
+    }
+}
+
+// The growth sums of a stretch of this weight, whose far end costs `v` to verify, and its work in energy. The exponents have the plain weight. The weight, by
+// itself and times the power, and the cost times the power are within the limit of costs, and with the caps of G and H each product is below 2^64.
+pub fn energy_factors(powers: Powers, p: Platform, weight: u64, v: u64) -> Factors
+    requires { ⌜ ReadyForEnergy powers weight v ⌝ }
+    ensures { λ r. ⌜ r ≡ energyFactorsOf powers p weight v ⌝ }
 {
     let silent = exponent_of(p.silent, weight);
     let failstop = exponent_of(p.failstop, weight);
     let growth = growth::g(silent);
-    let work = units::rounded_up(weight * growth::h(failstop)) + v;
+    let work = units::rounded_up(weight * growth::h(failstop));
+    let effort = powers.computing * work + powers.computing * v;
     Factors {
-        work: units::rounded_up(growth * work),
+        work: units::rounded_up(growth * effort),
         silent: growth,
         both: growth::g(silent + failstop),
     }
+}
+
+// The same in time.
+pub fn stretch_factors(p: Platform, weight: u64, v: u64) -> Factors
+    requires { ⌜ ReadyForFactors weight v ⌝ }
+    ensures { λ r. ⌜ r ≡ factorsOf p weight v ⌝ }
+{
+    energy_factors(Powers::plain(), p, weight, v)
 }

@@ -1,10 +1,17 @@
 -- The starred examples of document 01 and the team's own hold, by computing the definitions. Assumes nothing.
+use Prim.Native.Nat.{ℕ, _<_}
 use mathlib.Core.Path.{_≡_, refl}
 use mathlib.Core.Bool.{true}
+use mathlib.Core.List.{List, [], _∷_}
+use mathlib.Core.Logic.{_≢_}
+use native.Mathlib.Omega.{arith}
+use lib.Dec.{lit<}
+use lib.ListN.{take}
 use Rattle.units.specs.Unit.{up}
 use Rattle.lists.specs.Lists.{some, tabulate}
 use Rattle.refusals.specs.Refusals.{first}
 use Rattle.refusals.specs.Answers.{answered}
+use Rattle.refusals.specs.declared.Answer.{Answer}
 use Rattle.growth.specs.Growth.{ceilDiv, term, termSum, growthSum, growth, G, H}
 use Rattle.chain.specs.Time.{last, times, D}
 use Rattle.job.specs.Job.{total, between, isAllowed, stretchAllowed}
@@ -12,10 +19,13 @@ use Rattle.job.specs.Checks.{badCount, badCost, badWeight, badValue, badTask}
 use Rattle.sheet.specs.Layout.{tasks, offset, size, kind, indexOf, section, badLength, badForm, badSections, badExtent, badExtents, inSection, covered, strayByte, oneOfEach, badKinds}
 use Rattle.sheet.specs.Reading.{platformOf, weightsOf, jobOf}
 use Rattle.marks.specs.Pays.{table, paysOf}
-use Rattle.marks.specs.Marks.{badMarks, badStretch, badStretches}
+use Rattle.marks.specs.Marks.{badMarks, badStretch, badStretches, marksConditions}
 use Rattle.costs.specs.Costs.{vAt, cmAt, cdAt, rdAt, rmAt, verifyPaid, savesPaid}
 use Rattle.costs.specs.Stretch.{S, chainOf, timeOf}
+use Rattle.costs.specs.Energy.{energyS, energyChain, energyOf}
 use Rattle.pricing.specs.Price.{priceRefusal, priceOf}
+use Rattle.planning.specs.Energy.{outOfRange, passes, badComputing, badSaving, badPowers, energyRefusal, PlansByEnergy}
+use Rattle.planning.proofs.ByEnergy.{energy-least}
 use Rattle.state.specs.State.{cleared, fresh, zeroRun, totalOf, brokenValues, badAwaiting, overTotal, brokenPlace, broken, finished}
 use Rattle.following.specs.Run.{afterDone, afterPassed, backToMemory, backToDisk, placeAfter, nextPlace, outOfTurn, overWeight, stepRefusal, stepOf}
 use Rattle.following.specs.Start.{startRefusal, startOf}
@@ -32,6 +42,10 @@ use Rattle.examples.specs.Starred.{
   strayKinds,
   strayOverlap,
   sheetOne,
+  sheetB,
+  dearA,
+  powers,
+  energyUnder,
   timeUnder,
   numberUnder,
   runOfA,
@@ -54,10 +68,41 @@ unfolding up
     badMarks badStretch badStretches
     vAt cmAt cdAt rdAt rmAt verifyPaid savesPaid
     S chainOf timeOf
+    energyS energyChain energyOf
     priceRefusal priceOf
+    outOfRange passes badComputing badSaving badPowers energyRefusal
     cleared fresh zeroRun totalOf brokenValues badAwaiting overTotal brokenPlace broken finished
     afterDone afterPassed backToMemory backToDisk placeAfter nextPlace outOfTurn overWeight stepRefusal stepOf
     startRefusal startOf
     steps
-    headerA platformA weightsA sheetA weightsFirst strayBefore strayBetween strayAfter strayKinds strayOverlap sheetOne timeUnder numberUnder runOfA starred allAgree
+    headerA platformA weightsA sheetA weightsFirst strayBefore strayBetween strayAfter strayKinds strayOverlap sheetOne sheetB dearA energyUnder timeUnder numberUnder runOfA starred allAgree
 starred-examples = refl
+
+-- sheet B by the powers 3 and 5: marks 3233 are allowed and take less energy than 3333, the marks of its least time
+record Cheaper : Type 0 where
+  allowed : first (marksConditions (jobOf sheetB) (3 ∷ 2 ∷ 3 ∷ 3 ∷ [])) ≡ 0
+  tasks-4 : jobOf sheetB .tasks ≡ 4
+  less : energyUnder (powers 3 5) sheetB (3 ∷ 2 ∷ 3 ∷ 3 ∷ []) < energyUnder (powers 3 5) sheetB (3 ∷ 3 ∷ 3 ∷ 3 ∷ [])
+
+cheaper : Cheaper
+unfolding up
+    some tabulate
+    first
+    ceilDiv term termSum growthSum growth G H
+    last times D
+    total between isAllowed stretchAllowed
+    tasks offset size kind indexOf section
+    platformOf weightsOf jobOf
+    badMarks badStretch badStretches
+    vAt cmAt cdAt rdAt rmAt
+    energyS energyChain energyOf
+    sheetB energyUnder
+cheaper = record { allowed = refl; tasks-4 = refl; less = lit< tt }
+
+-- a time plan priced in energy is no plan by energy: no answer that keeps the promise has those marks
+pub time-plan-refused : (before after : List ℕ) (r : Answer) → PlansByEnergy (powers 3 5) sheetB before after r → r .number ≡ 0 → take 4 after ≢ 3 ∷ 3 ∷ 3 ∷ 3 ∷ []
+unfolding energyUnder
+time-plan-refused before after r plans e same =
+    let least = energy-least (powers 3 5) sheetB before after r plans e in
+    let marks : take (jobOf sheetB .tasks) after ≡ 3 ∷ 3 ∷ 3 ∷ 3 ∷ [] = rw (cheaper .tasks-4) same in
+    omega (arith, rw marks at (least .exact), least .least (3 ∷ 2 ∷ 3 ∷ 3 ∷ []) (cheaper .allowed), cheaper .less)

@@ -1,11 +1,15 @@
--- The starred examples of document 01, growths and times worked out anew by request 103, and the team's own for request 105: one list of a number that the
+-- The starred examples of document 01, growths and times worked out anew by request 103, and the team's own for requests 105 and 106: one list of a number that the
 -- definitions give and the number expected, and one test over it.
 use Prim.Native.Nat.{ℕ, _+_, _^_}
 use mathlib.Core.Bool.{Bool, true, _&&_}
 use mathlib.Core.List.{List, [], _∷_, _++_}
 use lib.Dec.{eqb}
 use Rattle.growth.specs.Growth.{G, H}
+use Rattle.sheet.specs.Reading.{jobOf}
+use Rattle.costs.specs.Energy.{energyOf}
+use Rattle.costs.specs.declared.Powers.{Powers}
 use Rattle.pricing.specs.Price.{priceOf}
+use Rattle.planning.specs.Energy.{energyRefusal}
 use Rattle.following.specs.Start.{startOf}
 use Rattle.history.specs.Events.{steps}
 use Rattle.state.specs.declared.Sums.{Sums}
@@ -56,6 +60,28 @@ sheetOne =
     0 ∷ 0 ∷ 0 ∷ 0 ∷ 6 ∷ 0 ∷ 0 ∷ 0 ∷ 4 ∷ 0 ∷ 0 ∷ 0 ∷ 3 ∷ 0 ∷ 0 ∷ 0 ∷ 0 ∷ 0 ∷ 0 ∷ 0 ∷ 0 ∷ 0 ∷ 0 ∷ 0 ∷ 2 ∷ 16 ∷
     0 ∷ 0 ∷ 0 ∷ []
 
+-- four tasks of 1048583, 500009, 700001 and 900007, rates 2^26 and 2^28; C_D 300000, C_M 60000, V 9000, R_D 200000, R_M 70000
+unfoldable pub sheetB : List ℕ
+sheetB =
+    1 ∷ 4 ∷ 2 ∷ 0 ∷ 20 ∷ 0 ∷ 0 ∷ 0 ∷ 29 ∷ 0 ∷ 0 ∷ 0 ∷ 49 ∷ 0 ∷ 0 ∷ 0 ∷ 17 ∷ 0 ∷ 0 ∷ 0 ∷ 1 ∷ 0 ∷ 0 ∷ 0 ∷ 4 ∷
+    0 ∷ 0 ∷ 0 ∷ 16 ∷ 224 ∷ 147 ∷ 4 ∷ 0 ∷ 96 ∷ 234 ∷ 0 ∷ 0 ∷ 40 ∷ 35 ∷ 0 ∷ 0 ∷ 64 ∷ 13 ∷ 3 ∷ 0 ∷ 112 ∷ 17 ∷ 1 ∷ 0 ∷ 2 ∷
+    7 ∷ 0 ∷ 16 ∷ 0 ∷ 41 ∷ 161 ∷ 7 ∷ 0 ∷ 97 ∷ 174 ∷ 10 ∷ 0 ∷ 167 ∷ 187 ∷ 13 ∷ 0 ∷ []
+
+-- A with C_D 2^26 and `more`
+unfoldable pub dearA : ℕ → List ℕ
+dearA more =
+    headerA 20 29 49 9
+    ++ (1 ∷ 0 ∷ 0 ∷ 0 ∷ 0 ∷ 0 ∷ 0 ∷ 0 ∷ 128 ∷ more ∷ 0 ∷ 0 ∷ 4 ∷ 232 ∷ 3 ∷ 0 ∷ 0 ∷ 160 ∷ 3 ∷ 0 ∷ 0 ∷ 160 ∷ 15 ∷ 0 ∷ 0 ∷
+    232 ∷ 3 ∷ 0 ∷ 0 ∷ weightsA)
+
+-- two powers
+abbrev pub powers : ℕ → ℕ → Powers
+powers computing saving = record { computing = computing; saving = saving }
+
+-- the energy of marks under a sheet
+unfoldable pub energyUnder : Powers → List ℕ → List ℕ → ℕ
+energyUnder p sheet marks = energyOf p (jobOf sheet) marks
+
 -- the time of marks under a sheet
 unfoldable pub timeUnder : List ℕ → List ℕ → ℕ
 timeUnder sheet marks = priceOf sheet marks .time
@@ -99,6 +125,21 @@ starred =
     ∷ example (numberUnder strayAfter (2 ∷ 3 ∷ [])) 28
     ∷ example (numberUnder strayKinds (2 ∷ 3 ∷ [])) 28
     ∷ example (numberUnder strayOverlap (2 ∷ 3 ∷ [])) 5
+    ∷ example (energyUnder (powers 1 1) sheetA (2 ∷ 3 ∷ [])) 726347
+    ∷ example (energyUnder (powers 2 3) sheetA (2 ∷ 3 ∷ [])) 1461409
+    ∷ example (energyUnder (powers 3 5) sheetB (2 ∷ 1 ∷ 3 ∷ 3 ∷ [])) 41752193
+    ∷ example (energyUnder (powers 3 5) sheetB (3 ∷ 3 ∷ 3 ∷ 3 ∷ [])) 33812410
+    ∷ example (energyUnder (powers 3 5) sheetB (3 ∷ 2 ∷ 3 ∷ 3 ∷ [])) 33515995
+    ∷ example (energyRefusal (powers 1 1) sheetA) 0
+    ∷ example (energyRefusal (powers 16 16) sheetA) 0
+    ∷ example (energyRefusal (powers 0 1) sheetA) 29
+    ∷ example (energyRefusal (powers 1 0) sheetA) 29
+    ∷ example (energyRefusal (powers 17 1) sheetA) 29
+    ∷ example (energyRefusal (powers 1 17) sheetA) 29
+    ∷ example (energyRefusal (powers (2 ^ 32 + 1) 1) sheetA) 29
+    ∷ example (energyRefusal (powers 1 16) (dearA 0)) 0
+    ∷ example (energyRefusal (powers 1 16) (dearA 1)) 29
+    ∷ example (energyRefusal (powers 0 1) strayAfter) 28
     ∷ example (runOfA .kept) 262144
     ∷ example (runOfA .redone) 131072
     ∷ example (runOfA .verify) 2784

@@ -25,9 +25,12 @@ total-mono w u (suc v) h = go (eq-or-lt-of-le h) (total-mono w u v)
     go (inr l) ih = rw (← (add-one v), total-more w v) (omega (arith, ih (omega arith)))
 
 -- a stretch within the chain weighs no more than the chain
-pub between-range : (job : Job) → Sound job → (u v : ℕ) → v ≤ job .tasks → between (job .weights) u v ≤ costLimit
+pub between-total : (job : Job) (u v : ℕ) → v ≤ job .tasks → between (job .weights) u v ≤ total (job .weights) (job .tasks)
 unfolding between
-between-range job s u v h = omega (arith, total-mono (job .weights) v (job .tasks) h, s .sum)
+between-total job u v h = omega (arith, total-mono (job .weights) v (job .tasks) h)
+
+pub between-range : (job : Job) → Sound job → (u v : ℕ) → v ≤ job .tasks → between (job .weights) u v ≤ costLimit
+between-range job s u v h = omega (arith, between-total job u v h, s .sum)
 
 -- the total up to any position of the chain
 pub total-range : (job : Job) → Sound job → (v : ℕ) → v ≤ job .tasks → total (job .weights) v ≤ costLimit

@@ -10,8 +10,7 @@ use sheet::SHEET_ROOM;
 
 // What is wrong, and with which sheet.
 fn complain(words: &[u8], which: &[u8]) {
-    io::write_all(STDERR_FILENO, words);
-    console::line_to(STDERR_FILENO, which);
+    console::complain_to(STDERR_FILENO, words, which);
 }
 
 // The joined sheet.

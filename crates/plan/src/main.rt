@@ -7,7 +7,7 @@ use sheet::layout::task_count;
 fn show(sheet: &[u8]) {
     let mut marks = [0u8; TASK_LIMIT];
     let answer = planning::plan(sheet, &mut marks);
-    console::plan(answer, marks, task_count(sheet));
+    console::plan(b"time", answer, marks, task_count(sheet));
 }
 
 fn main() {

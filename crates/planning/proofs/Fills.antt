@@ -1,7 +1,7 @@
--- The table is filled pair by pair and position by position: what is put is there, and what was there stays. A filled table holds the job's chain within
--- bounds.
+-- The table is filled pair by pair and position by position: what is put is there, and what was there stays. A filled table holds the job's chain in energy,
+-- within bounds.
 -- Assumes nothing.
-use Prim.Native.Nat.{ℕ, _+_, _-_, _≤_, _<_}
+use Prim.Native.Nat.{ℕ, _+_, _-_, _*_, _≤_, _<_}
 use mathlib.Core.Path.{_≡_, _∙_}
 use mathlib.Core.Logic.{inl, inr, _≢_}
 use mathlib.Core.List.{List}
@@ -19,10 +19,11 @@ use Rattle.job.specs.declared.Job.{Job}
 use Rattle.job.specs.declared.Platform.{Platform}
 use Rattle.job.proofs.Weights.{total-more, total-mono}
 use Rattle.costs.specs.Costs.{vAt, cmAt, cdAt, rdAt, rmAt}
-use Rattle.costs.specs.Stretch.{chainOf}
-use Rattle.costs.specs.Working.Factors.{factorsOf, factorsAt, ReadyForFactors}
-use Rattle.costs.proofs.Ranges.{cmAt-range, cdAt-range, rdAt-range, rmAt-range}
-use Rattle.costs.proofs.Stretches.{S-factors, factors-ready, both-decides, both-factored}
+use Rattle.costs.specs.Energy.{energyChain, ProductsFit}
+use Rattle.costs.specs.Working.Factors.{energyFactorsOf, energyFactorsAt, ReadyForEnergy}
+use Rattle.costs.specs.declared.Powers.{Powers}
+use Rattle.costs.proofs.Ranges.{cm-energy, cd-energy, rd-energy, rm-energy}
+use Rattle.costs.proofs.Stretches.{energy-factors, energy-ready, energy-decides, energy-factored}
 use Rattle.search.specs.Working.Table.{tableLength, cmStart, cdStart, rdStart, rmStart, entryOf, column, chainIn, putPair, putCosts, PairFits, Packable, Bounded}
 use Rattle.search.specs.declared.table.Costs.{Costs}
 use Rattle.search.proofs.Tables.{
@@ -58,40 +59,40 @@ totals-more w j sums h l =
     at v k (no e) = getD-set-other sums (j + 1) v next 0 e ∙ h .sums-at v (omega arith)
 
 -- the weight of a stretch is the difference of two totals, which does not fall below 0 and is in range
-pub record Weighed (job : Job) (u v low high : ℕ) : Type 0 where
+pub record Weighed (powers : Powers) (job : Job) (u v low high : ℕ) : Type 0 where
   pub order : low ≤ high
   pub weight : high - low ≡ between (job .weights) u v
-  pub ready : ReadyForFactors (between (job .weights) u v) (vAt job v)
+  pub ready : ReadyForEnergy powers (between (job .weights) u v) (vAt job v)
 
-pub totals-between : (job : Job) → Sound job → (sums : List ℕ) → Totals (job .weights) (job .tasks) sums → (u v : ℕ) → u < v → v ≤ job .tasks
-    → Weighed job u v (getD sums u 0) (getD sums v 0)
+pub totals-between : (powers : Powers) (job : Job) → Sound job → ProductsFit powers job → (sums : List ℕ) → Totals (job .weights) (job .tasks) sums → (u v : ℕ) → u < v → v ≤ job .tasks
+    → Weighed powers job u v (getD sums u 0) (getD sums v 0)
 unfolding between
-totals-between job sound sums h u v a b =
+totals-between powers job sound products sums h u v a b =
     record {
       order = rw (h .sums-at u (omega arith), h .sums-at v b) (total-mono (job .weights) u v (omega arith));
       weight = rw (h .sums-at u (omega arith), h .sums-at v b);
-      ready = factors-ready job sound u v b;
+      ready = energy-ready powers job sound products u v b;
     }
 
 -- growth sums fit 32 bits
-pub factors-packable : (p : Platform) (W v : ℕ) → Packable (factorsOf p W v)
-unfolding factorsOf
-factors-packable p W v =
+pub factors-packable : (powers : Powers) (p : Platform) (W v : ℕ) → Packable (energyFactorsOf powers p W v)
+unfolding energyFactorsOf
+factors-packable powers p W v =
     record {
       silent = omega (arith, G-cap (exponent (p .silent) W));
       both = omega (arith, G-cap (exponent (p .silent) W + exponent (p .failstop) W));
     }
 
-pub pairs-none : (job : Job) (t : List ℕ) → length t ≡ tableLength → PairsTo job 0 1 t
-pairs-none job t e = record { long = e; pairs = λ x y h k l. absurd (none x y h l) }
+pub pairs-none : (powers : Powers) (job : Job) (t : List ℕ) → length t ≡ tableLength → PairsTo powers job 0 1 t
+pairs-none powers job t e = record { long = e; pairs = λ x y h k l. absurd (none x y h l) }
   where
     none : (x y : ℕ) → x < y → EarlierPair x y 0 1 → ⊥
     none x y h (inl l) = omega arith
     none x y h (inr l) = omega (arith, l .0, l .1)
 
-module _ (job : Job) (u v : ℕ) (t : List ℕ) (h : PairsTo job u v t) where
+module _ (powers : Powers) (job : Job) (u v : ℕ) (t : List ℕ) (h : PairsTo powers job u v t) where
   -- the factors of the next pair
-  pub pairs-more : u < v → v ≤ job .tasks → job .tasks < positions → (f : Factors) → f ≡ factorsAt job u v → PairsTo job u (v + 1) (putPair t u v f)
+  pub pairs-more : u < v → v ≤ job .tasks → job .tasks < positions → (f : Factors) → f ≡ energyFactorsAt powers job u v → PairsTo powers job u (v + 1) (putPair t u v f)
   pairs-more k l few f e =
       record {
         long = length-putPair t u v f fits ∙ h .long;
@@ -105,16 +106,16 @@ module _ (job : Job) (u v : ℕ) (t : List ℕ) (h : PairsTo job u v t) where
       earlier x y n (inl z) = inl z
       earlier x y n (inr z) = inr (z .0, omega (arith, z .1, n (z .0)))
 
-      other : (x y : ℕ) → x < y → y ≤ job .tasks → EarlierPair x y u (v + 1) → (x ≡ u → y ≡ v → ⊥) → entryOf (putPair t u v f) x y ≡ factorsAt job x y
+      other : (x y : ℕ) → x < y → y ≤ job .tasks → EarlierPair x y u (v + 1) → (x ≡ u → y ≡ v → ⊥) → entryOf (putPair t u v f) x y ≡ energyFactorsAt powers job x y
       other x y a b c n = putPair-apart t u v f fits x y (record { order = a; few = omega arith }) n ∙ h .pairs x y a b (earlier x y n c)
 
-      at : (x y : ℕ) → x < y → y ≤ job .tasks → EarlierPair x y u (v + 1) → Dec (x ≡ u) → Dec (y ≡ v) → entryOf (putPair t u v f) x y ≡ factorsAt job x y
+      at : (x y : ℕ) → x < y → y ≤ job .tasks → EarlierPair x y u (v + 1) → Dec (x ≡ u) → Dec (y ≡ v) → entryOf (putPair t u v f) x y ≡ energyFactorsAt powers job x y
       at x y a b c (yes p) (yes q) = rw (p, q) (putPair-here t u v f fits ∙ e)
       at x y a b c (yes p) (no q) = other x y a b c (λ _ z. q z)
       at x y a b c (no p) q = other x y a b c (λ z _. p z)
 
   -- after the last far end the next near end begins
-  pub pairs-next : job .tasks < v → PairsTo job (u + 1) (u + 2) t
+  pub pairs-next : job .tasks < v → PairsTo powers job (u + 1) (u + 2) t
   pairs-next k = record { long = h .long; pairs = λ x y a b c. h .pairs x y a b (earlier x y a b c) }
     where
       earlier : (x y : ℕ) → x < y → y ≤ job .tasks → EarlierPair x y (u + 1) (u + 2) → EarlierPair x y u v
@@ -126,8 +127,8 @@ module _ (job : Job) (u v : ℕ) (t : List ℕ) (h : PairsTo job u v t) where
       earlier x y a b (inr z) = absurd (omega (arith, z .0, z .1))
 
 -- after the last near end all stretches are there
-pub table-first : (job : Job) (t : List ℕ) → PairsTo job (job .tasks) (job .tasks + 1) t → TableTo job 0 t
-table-first job t h =
+pub table-first : (powers : Powers) (job : Job) (t : List ℕ) → PairsTo powers job (job .tasks) (job .tasks + 1) t → TableTo powers job 0 t
+table-first powers job t h =
     record {
       long = h .long;
       pairs = λ x y a b. h .pairs x y a b (inl (omega arith));
@@ -138,13 +139,13 @@ table-first job t h =
     }
 
 -- the costs of a position as the job gives them
-pub record CostsOf (job : Job) (v : ℕ) (c : Costs) : Type 0 where
-  pub cm : c .cm ≡ cmAt job v
-  pub cd : c .cd ≡ cdAt job v
-  pub rd : c .rd ≡ rdAt job v
-  pub rm : c .rm ≡ rmAt job v
+pub record CostsOf (powers : Powers) (job : Job) (v : ℕ) (c : Costs) : Type 0 where
+  pub cm : c .cm ≡ powers .saving * cmAt job v
+  pub cd : c .cd ≡ powers .saving * cdAt job v
+  pub rd : c .rd ≡ powers .saving * rdAt job v
+  pub rm : c .rm ≡ powers .saving * rmAt job v
 
-module _ (job : Job) (k : ℕ) (t : List ℕ) (h : TableTo job k t) (few : job .tasks < positions) (here : k ≤ job .tasks) (c : Costs) (is : CostsOf job k c) where
+module _ (powers : Powers) (job : Job) (k : ℕ) (t : List ℕ) (h : TableTo powers job k t) (few : job .tasks < positions) (here : k ≤ job .tasks) (c : Costs) (is : CostsOf powers job k c) where
   -- one column with its entry at k
   column-more : (start : ℕ) (cost : ℕ → ℕ) → ((v : ℕ) → v < k → column start t v ≡ cost v) → column start (putCosts t k c) k ≡ cost k
       → ((w : ℕ) → w < positions → w ≢ k → column start (putCosts t k c) w ≡ column start t w)
@@ -158,21 +159,21 @@ module _ (job : Job) (k : ℕ) (t : List ℕ) (h : TableTo job k t) (few : job .
   room : k < positions
   room = omega arith
 
-  pub table-more : TableTo job (k + 1) (putCosts t k c)
+  pub table-more : TableTo powers job (k + 1) (putCosts t k c)
   table-more =
       record {
         long = length-putCosts t k c ∙ h .long;
         pairs = λ x y a b. putCosts-pair t k c x y (record { order = a; few = omega arith }) ∙ h .pairs x y a b;
-        cm = column-more cmStart (cmAt job) (h .cm) (putCosts-cm t k c (h .long) room ∙ is .cm) (putCosts-cm-apart t k c (h .long) room);
-        cd = column-more cdStart (cdAt job) (h .cd) (putCosts-cd t k c (h .long) room ∙ is .cd) (putCosts-cd-apart t k c (h .long) room);
-        rd = column-more rdStart (rdAt job) (h .rd) (putCosts-rd t k c (h .long) room ∙ is .rd) (putCosts-rd-apart t k c (h .long) room);
-        rm = column-more rmStart (rmAt job) (h .rm) (putCosts-rm t k c (h .long) room ∙ is .rm) (putCosts-rm-apart t k c (h .long) room);
+        cm = column-more cmStart (λ v. powers .saving * cmAt job v) (h .cm) (putCosts-cm t k c (h .long) room ∙ is .cm) (putCosts-cm-apart t k c (h .long) room);
+        cd = column-more cdStart (λ v. powers .saving * cdAt job v) (h .cd) (putCosts-cd t k c (h .long) room ∙ is .cd) (putCosts-cd-apart t k c (h .long) room);
+        rd = column-more rdStart (λ v. powers .saving * rdAt job v) (h .rd) (putCosts-rd t k c (h .long) room ∙ is .rd) (putCosts-rd-apart t k c (h .long) room);
+        rm = column-more rmStart (λ v. powers .saving * rmAt job v) (h .rm) (putCosts-rm t k c (h .long) room ∙ is .rm) (putCosts-rm-apart t k c (h .long) room);
       }
 
--- a full table holds the job's chain
-module _ (job : Job) (sound : Sound job) (t : List ℕ) (full : TableTo job (job .tasks + 1) t) where
+-- a full table holds the job's chain in energy
+module _ (powers : Powers) (job : Job) (sound : Sound job) (products : ProductsFit powers job) (t : List ℕ) (full : TableTo powers job (job .tasks + 1) t) where
   factored-if : (u v : ℕ) → u < v → v ≤ job .tasks → entryOf t u v .both ≢ 0 → Factored (entryOf t u v)
-  factored-if u v h l = rw (full .pairs u v h l) (both-factored job sound u v l)
+  factored-if u v h l = rw (full .pairs u v h l) (energy-factored powers job sound products u v l)
 
   table-bounded : Bounded (job .tasks) t
   table-bounded =
@@ -180,23 +181,23 @@ module _ (job : Job) (sound : Sound job) (t : List ℕ) (full : TableTo job (job
         long = full .long;
         few = omega (arith, sound .few-tasks);
         factored = factored-if;
-        cm = λ v h. rw (full .cm v (omega arith)) (cmAt-range job (sound .costs) v);
-        cd = λ v h. rw (full .cd v (omega arith)) (cdAt-range job (sound .costs) v);
-        rd = λ v h. rw (full .rd v (omega arith)) (omega (arith, rdAt-range job (sound .costs) v));
-        rm = λ v h. rw (full .rm v (omega arith)) (rmAt-range job (sound .costs) v);
+        cm = λ v h. rw (full .cm v (omega arith)) (cm-energy powers job products v);
+        cd = λ v h. rw (full .cd v (omega arith)) (cd-energy powers job products v);
+        rd = λ v h. rw (full .rd v (omega arith)) (omega (arith, rd-energy powers job products v));
+        rm = λ v h. rw (full .rm v (omega arith)) (rm-energy powers job products v);
       }
 
-  table-same : Same (job .tasks) (chainIn t) (chainOf job)
-  unfolding chainIn chainOf
+  table-same : Same (job .tasks) (chainIn t) (energyChain powers job)
+  unfolding chainIn energyChain
   table-same =
       record {
-        allowed = λ u v a b. rw (full .pairs u v a b) (both-decides job sound u v b);
+        allowed = λ u v a b. rw (full .pairs u v a b) (energy-decides powers job sound products u v b);
         stretch =
             λ u v m d Q' M' x y a b.
-            rw (S-factors job u v m d Q' M', full .pairs u v a b, full .rd d (omega arith), full .rm m (omega arith));
+            rw (energy-factors powers job u v m d Q' M', full .pairs u v a b, full .rd d (omega arith), full .rm m (omega arith));
         cm = λ v a b. full .cm v (omega arith);
         cd = λ v a b. full .cd v (omega arith);
       }
 
-  pub table-of : TableOf job t
+  pub table-of : TableOf powers job t
   table-of = record { bounded = table-bounded; same = table-same }

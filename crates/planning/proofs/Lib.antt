@@ -1,5 +1,7 @@
--- The laws of planning that its own proofs and the crates above cite; `Theorems` has what follows for callers.
+-- The laws of planning that its own proofs and the crates above cite; `Theorems` and `ByEnergy` have what follows for callers.
 pub mod Buffers
 pub mod Fills
+pub mod Powers
 pub mod Promises
 pub mod Theorems
+pub mod ByEnergy

@@ -67,7 +67,7 @@ list-same : (n : ℕ) (a b : List ℕ) → length a ≡ n → length b ≡ n →
 list-same n a b h k same = ext-getD 0 a b (h ∙ sym k) (λ i l. same (suc i) (omega arith) (omega arith))
 
 module _ (c : Chain) (n : ℕ) (before : List ℕ) (room : n ≤ length before) where
-  front-length : (after : List ℕ) (r : Answer) → Planned c n before after r → length (take n after) ≡ n
+  pub front-length : (after : List ℕ) (r : Answer) → Planned c n before after r → length (take n after) ≡ n
   front-length after r p = length-take-le n after (omega (arith, p .long))
 
   planned-once : (a b : List ℕ) (r q : Answer) → Planned c n before a r → Planned c n before b q → (r ≡ q) × (a ≡ b)
@@ -91,6 +91,14 @@ checked-once refusal c rises n some before a b r q f g =
     (λ number h is. refused-once number before a b r q (is a r f) (is b q g))
     (λ z h is. planned-once c n before h a b r q (is a r f) (is b q g))
 
+-- an answer with a number gives time 0 and writes no byte
+pub checked-refused : (refusal : ℕ) (c : Chain) → Rising c → (n : ℕ) → (refusal ≡ 0 → 0 < n) → (before after : List ℕ) (r : Answer)
+    → PlansChecked refusal c n before after r → 0 < r .number → Refused (r .number) before after r
+checked-refused refusal c rises n some before after r p h =
+    by-case refusal c rises n some before (Refused (r .number) before after r)
+    (λ number _ is. let f = is after r p in record { numbered = refl; no-time = f .no-time; untouched = f .untouched })
+    (λ _ _ is. absurd (omega (arith, is after r p .numbered)))
+
 -- a sheet that passes checks 1 to 8 has a task
 some-task : (s : List ℕ) → sheetRefusal s ≡ 0 → 0 < jobOf s .tasks
 some-task s z = sheet-sound s z .some-task
@@ -101,7 +109,7 @@ plan-once s before a b r q f g =
     checked-once (sheetRefusal s) (chainOf (jobOf s)) (S-rises (jobOf s)) (jobOf s .tasks) (some-task s) before a b r q f g
 
 -- the promise read from the answer
-chain-says : (c : Chain) → Rising c → (n : ℕ) → 0 < n → (before after : List ℕ) (r : Answer) → PlansChain c n before after r → AnswerSays c n before after r
+pub chain-says : (c : Chain) → Rising c → (n : ℕ) → 0 < n → (before after : List ℕ) (r : Answer) → PlansChain c n before after r → AnswerSays c n before after r
 chain-says c rises n h before after r p = go (slow-decided c rises n h)
   where
     go : Dec (AllSlow c n) → AnswerSays c n before after r

@@ -1,12 +1,14 @@
-// Fills the search's table with the chain of a job: the factors of each stretch, a near end and a far end, then the costs of each position.
+// Fills the search's table with the chain of a job in energy, which by the powers 1 and 1 is its time: the factors of each stretch, a near end and a far end,
+// then the costs of each position.
 ghost use Prim.Native.Nat.{_+_};
 ghost use Rattle.job.specs.Working.Sound.{Sound};
 ghost use Rattle.planning.specs.Working.Fill.{Totals, PairsTo, TableTo, TableOf, ReadyForPairs, ReadyForCosts, ReadyToFill};
+use costs::Powers;
 use costs::cd_at;
 use costs::cm_at;
+use costs::energy_factors;
 use costs::rd_at;
 use costs::rm_at;
-use costs::stretch_factors;
 use costs::v_at;
 use job::Job;
 use job::POSITIONS;
@@ -31,53 +33,51 @@ fn totals(job: Job) -> [u64; POSITIONS]
 }
 
 // The stretches from the near end u to each far end.
-fn fill_pairs(t: &mut [u32], job: Job, sums: &[u64], u: usize)
-    requires { ⌜ ReadyForPairs job (now sums) u (now t) ⌝ }
-    ensures { λ _. ⌜ PairsTo job (u + 1) (u + 2) (now (t .exit)) ⌝ }
+fn fill_pairs(t: &mut [u32], powers: Powers, job: Job, sums: &[u64], u: usize)
+    requires { ⌜ ReadyForPairs powers job (now sums) u (now t) ⌝ }
+    ensures { λ _. ⌜ PairsTo powers job (u + 1) (u + 2) (now (t .exit)) ⌝ }
 {
     let job = job;
     let n = job.tasks;
     let platform = job.platform;
     let mut v = u + 1;
     while v <= n {
-        let f = stretch_factors(platform, sums[v] - sums[u], v_at(job, v));
+        let f = energy_factors(powers, platform, sums[v] - sums[u], v_at(job, v));
         put_pair(t, u, v, f);
         v += 1;
     }
 }
 
 // The costs of each position.
-fn fill_costs(t: &mut [u32], job: Job)
-    requires { ⌜ ReadyForCosts job (now t) ⌝ }
-    ensures { λ _. ⌜ TableTo job (job .tasks + 1) (now (t .exit)) ⌝ }
+fn fill_costs(t: &mut [u32], powers: Powers, job: Job)
+    requires { ⌜ ReadyForCosts powers job (now t) ⌝ }
+    ensures { λ _. ⌜ TableTo powers job (job .tasks + 1) (now (t .exit)) ⌝ }
 {
     let job = job;
     let n = job.tasks;
     let mut v: usize = 0;
     while v <= n {
-        let costs = Costs {
-            cm: cm_at(job, v),
-            cd: cd_at(job, v),
-            rd: rd_at(job, v),
-            rm: rm_at(job, v),
-        };
-        put_costs(t, v, costs);
+        let cm = powers.saving * cm_at(job, v);
+        let cd = powers.saving * cd_at(job, v);
+        let rd = powers.saving * rd_at(job, v);
+        let rm = powers.saving * rm_at(job, v);
+        put_costs(t, v, Costs { cm, cd, rd, rm });
         v += 1;
     }
 }
 
-// The chain of the job. Planning alone calls this, with a table of the search's length and a job that has passed checks 3, 7 and 8.
-pub fn fill(t: &mut [u32], job: Job)
-    requires { ⌜ ReadyToFill job (now t) ⌝ }
-    ensures { λ _. ⌜ TableOf job (now (t .exit)) ⌝ }
+// The chain of the job in energy. Planning alone calls this, with a table of the search's length and a job that has passed checks 3, 7 and 8 and whose products with the powers fit.
+pub fn fill(t: &mut [u32], powers: Powers, job: Job)
+    requires { ⌜ ReadyToFill powers job (now t) ⌝ }
+    ensures { λ _. ⌜ TableOf powers job (now (t .exit)) ⌝ }
 {
     let job = job;
     let n = job.tasks;
     let sums = totals(job);
     let mut u: usize = 0;
     while u < n {
-        fill_pairs(t, job, &sums, u);
+        fill_pairs(t, powers, job, &sums, u);
         u += 1;
     }
-    fill_costs(t, job);
+    fill_costs(t, powers, job);
 }

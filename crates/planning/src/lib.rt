@@ -2,10 +2,11 @@
 ghost use mathlib.Core.Path.{_≡_};
 ghost use mathlib.Core.List.{_++_};
 ghost use lib.ListN.{take, drop};
-ghost use Rattle.costs.specs.Stretch.{chainOf};
+ghost use Rattle.costs.specs.Energy.{energyChain};
 ghost use Rattle.search.specs.Working.Table.{chainIn};
 ghost use Rattle.planning.specs.Promise.{Plans, PlansChain};
-ghost use Rattle.planning.specs.Working.Ready.{ReadyToCopy, ReadyForChain, ReadyForJob};
+ghost use Rattle.planning.specs.Working.Ready.{ReadyToCopy, ReadyForChain, ReadyForPowers};
+use costs::Powers;
 use job::Job;
 use job::POSITIONS;
 use job::TASK_LIMIT;
@@ -20,6 +21,7 @@ use search::walk::plan_marks;
 use sheet::read::read_job;
 use units::NONE;
 
+pub mod energy;
 mod fill;
 
 use fill::fill;
@@ -53,13 +55,13 @@ fn plan_chain(t: &[u32], n: usize, buffer: &mut [u8]) -> Answer
     accepted(least)
 }
 
-// The plan of a job for a buffer that holds its marks.
-fn plan_job(job: Job, buffer: &mut [u8]) -> Answer
-    requires { ⌜ ReadyForJob job (now buffer) ⌝ }
-    ensures { λ r. ⌜ PlansChain (chainOf job) (job .tasks) (now (buffer .entry)) (now (buffer .exit)) r ⌝ }
+// The plan by energy of a job for a buffer that holds its marks.
+fn plan_job(powers: Powers, job: Job, buffer: &mut [u8]) -> Answer
+    requires { ⌜ ReadyForPowers powers job (now buffer) ⌝ }
+    ensures { λ r. ⌜ PlansChain (energyChain powers job) (job .tasks) (now (buffer .entry)) (now (buffer .exit)) r ⌝ }
 {
     let mut table = [0u32; TABLE_LENGTH];
-    fill(&mut table, job);
+    fill(&mut table, powers, job);
     plan_chain(&table, job.tasks, buffer)
 }
 
@@ -75,5 +77,5 @@ pub fn plan(s: &[u8], buffer: &mut [u8]) -> Answer
     if buffer.len() < job.tasks {
         return refused(SHORT_BUFFER);
     }
-    plan_job(job, buffer)
+    plan_job(Powers::plain(), job, buffer)
 }

@@ -22,6 +22,8 @@ use Rattle.joining.specs.Join.{joinRefusal, Joins, JoinRefused}
 use Rattle.joining.specs.declared.Joined.{Joined}
 use Rattle.joining.proofs.Theorems.{join-refuses}
 use Rattle.pricing.specs.Price.{priceRefusal, priceOf}
+use Rattle.costs.specs.declared.Powers.{Powers}
+use Rattle.planning.specs.Energy.{energyRefusal}
 use Rattle.equations.specs.Promise.{printedRefusal}
 use Rattle.following.specs.Start.{startRefusal, startOf}
 use Rattle.pulvanor.specs.Stray.{StrayRefused}
@@ -54,6 +56,10 @@ module _ (s : List ℕ) (clear : first (conditionsTo5 s) ≡ 0) (found : HasStra
   unfolding priceRefusal
   of-price marks = given _
 
+  of-energy : (powers : Powers) → energyRefusal powers s ≡ Numbers.strayByte
+  unfolding energyRefusal
+  of-energy powers = given _
+
   of-printed : printedRefusal s ≡ Numbers.strayByte
   unfolding printedRefusal
   of-printed = given _
@@ -79,6 +85,7 @@ module _ (s : List ℕ) (clear : first (conditionsTo5 s) ≡ 0) (found : HasStra
         read = of-reading;
         price = λ marks. rw (of-price marks) refl;
         plan = λ before after r plans. (rw of-sheet at plans) .checked (lit< tt);
+        energy = λ powers before after r plans. (rw (of-energy powers) at plans) .checked (lit< tt);
         printed = λ before after r plans. (rw of-printed at plans) .checked (lit< tt);
         start = λ marks. rw (of-start marks) refl;
         join-first = λ t before after r joins. join-refused s t before after r (of-first t (length before)) joins;

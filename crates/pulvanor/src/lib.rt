@@ -5,9 +5,11 @@ ghost use Rattle.sheet.specs.Lookup.{foundOf};
 ghost use Rattle.joining.specs.Join.{Joins};
 ghost use Rattle.pricing.specs.Price.{priceOf};
 ghost use Rattle.planning.specs.Promise.{Plans};
+ghost use Rattle.planning.specs.Energy.{PlansByEnergy};
 ghost use Rattle.equations.specs.Promise.{PlansAsPrinted};
 ghost use Rattle.following.specs.Start.{startOf};
 ghost use Rattle.logs.specs.Log.{logOf};
+use costs::Powers;
 use following::Started;
 use following::Stepped;
 use joining::Joined;
@@ -55,6 +57,19 @@ pub extern "C" fn pulvanor_plan(sheet: &[u8], buffer: &mut [u8]) -> Answer
     ensures { λ r. ⌜ Plans (now (sheet .entry)) (now (buffer .entry)) (now (buffer .exit)) r ⌝ }
 {
     planning::plan(sheet, buffer)
+}
+
+// The plan by energy, where the powers are one for computing and verifying and one for saving and recovering.
+#[no_mangle]
+pub extern "C" fn pulvanor_energy(
+    sheet: &[u8],
+    computing: u64,
+    saving: u64,
+    buffer: &mut [u8],
+) -> Answer
+    ensures { λ r. ⌜ PlansByEnergy (record { computing = computing; saving = saving }) (now (sheet .entry)) (now (buffer .entry)) (now (buffer .exit)) r ⌝ }
+{
+    planning::energy::plan_energy(sheet, Powers { computing, saving }, buffer)
 }
 
 // The plan of a sheet of up to 8 tasks, by the equations as printed.

@@ -67,3 +67,6 @@ longChain = 27
 
 abbrev pub strayByte : ℕ
 strayByte = 28
+
+abbrev pub badPower : ℕ
+badPower = 29

@@ -53,7 +53,10 @@ pub const LONG_CHAIN: u64 = 27;
 // Of a sheet, by request 105: tested after 5 and before 6.
 pub const STRAY_BYTE: u64 = 28;
 
-// The answer to a call: number 0 and the time, or the number of its refusal and time 0.
+// Of the powers of a plan by energy, by request 106: tested after 8 and before 11.
+pub const BAD_POWER: u64 = 29;
+
+// The answer to a call: number 0 and the time, or the number of its refusal and time 0. A plan by energy has its energy in place of the time.
 #[repr(C)]
 pub struct Answer {
     pub number: u64,

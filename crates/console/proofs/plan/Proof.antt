@@ -12,9 +12,6 @@ refused-requires c κs = search needs
 returns : tie.Need-returns
 returns c = search needs
 
-slice-aggregate-numbered : tie.Need-slice-aggregate-numbered
-slice-aggregate-numbered c = search needs
-
 numbered-requires : tie.Need-numbered-requires
 numbered-requires c κs = search needs
 
@@ -28,12 +25,12 @@ digits-requires : tie.Need-digits-requires
 digits-requires c κs = search needs
 
 array-share-prefix-text : tie.Need-array-share-prefix-text
-array-share-prefix-text c = omega (arith, c .digits .ensures .long, c .before .before .before .before .before .before .before .pre (c .before .before .before .before .before .if1 .left))
+array-share-prefix-text c = omega (arith, c .digits .ensures .long, c .before .before .before .before .before .before .before .pre (c .before .before .before .before .if1 .left))
 
 slice-aggregate-line : tie.Need-slice-aggregate-line
 slice-aggregate-line c =
     let pre = c .before .before .before .before .before .before .before .before .pre in
-    let if1 = c .before .before .before .before .before .before .if1 in
+    let if1 = c .before .before .before .before .before .if1 in
     sym (length-take-le _ _ (omega (arith, c .before .digits .ensures .long, pre (if1 .left))))
 
 line-requires : tie.Need-line-requires
@@ -48,7 +45,6 @@ plan-spec =
     (tie.spec
     refused-requires
     returns
-    slice-aggregate-numbered
     numbered-requires
     slice-aggregate-write-all
     write-all-requires

@@ -1,108 +1,22 @@
--- `costs::stretch_factors` meets its contract. The growth sums at the stretch's exponents; their caps keep each product below 2^64. Assumes nothing.
-use native.Mathlib.Omega.{arith}
-use Rattle.costs.specs.Working.Factors.{factorsOf}
-use Rattle.costs.proofs.Ranges.{mean-product, effort-range, work-product}
+-- `costs::stretch_factors` meets its contract. By the powers 1 and 1 energy is time. Assumes nothing.
+use Rattle.costs.proofs.Ranges.{plain-factors, plain-ready}
 use borrow.Author.Needs.{needs}
 use Rattle.costs.proofs.stretch_factors.Statement.{statement}
 use Rattle.costs.proofs.stretch_factors.Tie as tie
 
-exponent-of-requires : tie.Need-exponent-of-requires
-exponent-of-requires c κs = search needs
+plain-requires : tie.Need-plain-requires
+plain-requires c κs = search needs
 
-exponent-of-requires-2 : tie.Need-exponent-of-requires-2
-exponent-of-requires-2 c κs = search needs
-
-g-requires : tie.Need-g-requires
-g-requires c κs = search needs
-
-h-requires : tie.Need-h-requires
-h-requires c κs = search needs
-
-mul-rounded-up : tie.Need-mul-rounded-up
-mul-rounded-up c =
-    let h = c .h in
-    let pre = c .before .before .before .before .pre in
-    let exponent-of2 = c .before .before .exponent-of2 in
-    record { fits = rw (h .ensures) (omega (arith, mean-product pre (exponent-of2 .result))) }
-
-rounded-up-requires : tie.Need-rounded-up-requires
-rounded-up-requires c κs =
-    let h = c .h in
-    let pre = c .before .before .before .before .pre in
-    let exponent-of2 = c .before .before .exponent-of2 in
-    rw (h .ensures) (omega (arith, mean-product pre (exponent-of2 .result)))
-
-add-work : tie.Need-add-work
-add-work c =
-    let rounded-up = c .rounded-up in
-    let h = c .before .h in
-    let pre = c .before .before .before .before .before .pre in
-    let exponent-of2 = c .before .before .before .exponent-of2 in
-    record { fits = rw (rounded-up .ensures, h .ensures) (omega (arith, effort-range pre (exponent-of2 .result))) }
-
-mul-rounded-up-2 : tie.Need-mul-rounded-up-2
-mul-rounded-up-2 c =
-    let rounded-up = c .rounded-up in
-    let h = c .before .h in
-    let g = c .before .before .g in
-    let pre = c .before .before .before .before .before .pre in
-    let exponent-of = c .before .before .before .before .exponent-of in
-    let exponent-of2 = c .before .before .before .exponent-of2 in
-    record {
-      fits = rw (rounded-up .ensures, h .ensures, g .ensures)
-          (omega (arith, work-product pre (exponent-of .result) (exponent-of2 .result)));
-    }
-
-rounded-up-requires-2 : tie.Need-rounded-up-requires-2
-rounded-up-requires-2 c κs =
-    let rounded-up = c .rounded-up in
-    let h = c .before .h in
-    let g = c .before .before .g in
-    let pre = c .before .before .before .before .before .pre in
-    let exponent-of = c .before .before .before .before .exponent-of in
-    let exponent-of2 = c .before .before .before .exponent-of2 in
-    rw (rounded-up .ensures, h .ensures, g .ensures)
-    (omega (arith, work-product pre (exponent-of .result) (exponent-of2 .result)))
-
-add-g : tie.Need-add-g
-add-g c = search needs
-
-g-requires-2 : tie.Need-g-requires-2
-g-requires-2 c κs = search needs
+energy-factors-requires : tie.Need-energy-factors-requires
+energy-factors-requires c κs =
+    let pre = c .before .pre in
+    rw (c .plain .ensures) (plain-ready pre)
 
 returns : tie.Need-returns
-unfolding factorsOf
 returns c =
-    let rounded-up2 = c .before .rounded-up2 in
-    let rounded-up = c .before .before .rounded-up in
-    let h = c .before .before .before .h in
-    let g = c .before .before .before .before .g in
-    let g2 = c .g2 in
-    let exponent-of = c .before .before .before .before .before .before .exponent-of in
-    let exponent-of2 = c .before .before .before .before .before .exponent-of2 in
-    rw (
-      rounded-up2 .ensures,
-      rounded-up .ensures,
-      h .ensures,
-      g .ensures,
-      g2 .ensures,
-      exponent-of .ensures .0,
-      exponent-of2 .ensures .0,
-    )
+    let energy-factors = c .energy-factors in
+    let plain = c .before .plain in
+    rw (energy-factors .ensures, plain .ensures) (plain-factors _ _ _)
 
 pub stretch-factors-spec : {M : Type 1} → statement M
-stretch-factors-spec =
-    tie.close
-    (tie.spec
-    exponent-of-requires
-    exponent-of-requires-2
-    g-requires
-    h-requires
-    mul-rounded-up
-    rounded-up-requires
-    add-work
-    mul-rounded-up-2
-    rounded-up-requires-2
-    add-g
-    g-requires-2
-    returns)
+stretch-factors-spec = tie.close (tie.spec plain-requires energy-factors-requires returns)

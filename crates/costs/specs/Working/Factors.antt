@@ -8,6 +8,7 @@ use Rattle.job.specs.Job.{between, exponent}
 use Rattle.job.specs.declared.Job.{Job}
 use Rattle.job.specs.declared.Platform.{Platform}
 use Rattle.costs.specs.Costs.{vAt}
+use Rattle.costs.specs.declared.Powers.{Powers}
 
 -- of a stretch of weight W whose far end costs v to verify
 unfoldable pub factorsOf : Platform → (W v : ℕ) → Factors
@@ -26,3 +27,20 @@ factorsAt job u v = factorsOf (job .platform) (between (job .weights) u v) (vAt 
 pub record ReadyForFactors (weight v : ℕ) : Type 0 where
   pub weight-range : weight ≤ costLimit
   pub v-range : v ≤ costLimit
+
+-- the same in energy
+unfoldable pub energyFactorsOf : Powers → Platform → (W v : ℕ) → Factors
+energyFactorsOf powers p W v =
+    record {
+      work = up (G (exponent (p .silent) W) * (powers .computing * up (W * H (exponent (p .failstop) W)) + powers .computing * v));
+      silent = G (exponent (p .silent) W);
+      both = G (exponent (p .silent) W + exponent (p .failstop) W);
+    }
+
+abbrev pub energyFactorsAt : Powers → Job → ℕ → ℕ → Factors
+energyFactorsAt powers job u v = energyFactorsOf powers (job .platform) (between (job .weights) u v) (vAt job v)
+
+pub record ReadyForEnergy (powers : Powers) (weight v : ℕ) : Type 0 where
+  pub weight-range : weight ≤ costLimit
+  pub weight-product : powers .computing * weight ≤ costLimit
+  pub v-product : powers .computing * v ≤ costLimit

@@ -1,5 +1,5 @@
--- How the table is filled from a job, a near end and a far end, then position by position.
-use Prim.Native.Nat.{ℕ, _+_, _≤_, _<_}
+-- How the table is filled from a job and its powers, a near end and a far end, then position by position.
+use Prim.Native.Nat.{ℕ, _+_, _*_, _≤_, _<_}
 use mathlib.Core.Path.{_≡_}
 use mathlib.Core.Logic.{_⊎_}
 use mathlib.Core.List.{List}
@@ -9,8 +9,9 @@ use Rattle.job.specs.Job.{total, positions}
 use Rattle.job.specs.Working.Sound.{Sound}
 use Rattle.job.specs.declared.Job.{Job}
 use Rattle.costs.specs.Costs.{cmAt, cdAt, rdAt, rmAt}
-use Rattle.costs.specs.Stretch.{chainOf}
-use Rattle.costs.specs.Working.Factors.{factorsAt}
+use Rattle.costs.specs.Energy.{energyChain, ProductsFit}
+use Rattle.costs.specs.Working.Factors.{energyFactorsAt}
+use Rattle.costs.specs.declared.Powers.{Powers}
 use Rattle.search.specs.Working.Table.{tableLength, cmStart, cdStart, rdStart, rmStart, entryOf, column, chainIn, Bounded}
 
 -- the weight up to each position, up to position k
@@ -23,35 +24,38 @@ abbrev pub EarlierPair : (x y u v : ℕ) → Type 0
 EarlierPair x y u v = (x < u) ⊎ ((x ≡ u) × (y < v))
 
 -- the stretches of the job before the pair (u, v) have their factors
-pub record PairsTo (job : Job) (u v : ℕ) (t : List ℕ) : Type 0 where
+pub record PairsTo (powers : Powers) (job : Job) (u v : ℕ) (t : List ℕ) : Type 0 where
   pub long : length t ≡ tableLength
-  pub pairs : (x y : ℕ) → x < y → y ≤ job .tasks → EarlierPair x y u v → entryOf t x y ≡ factorsAt job x y
+  pub pairs : (x y : ℕ) → x < y → y ≤ job .tasks → EarlierPair x y u v → entryOf t x y ≡ energyFactorsAt powers job x y
 
 -- all stretches of the job have their factors, and the positions before k their costs
-pub record TableTo (job : Job) (k : ℕ) (t : List ℕ) : Type 0 where
+pub record TableTo (powers : Powers) (job : Job) (k : ℕ) (t : List ℕ) : Type 0 where
   pub long : length t ≡ tableLength
-  pub pairs : (x y : ℕ) → x < y → y ≤ job .tasks → entryOf t x y ≡ factorsAt job x y
-  pub cm : (v : ℕ) → v < k → column cmStart t v ≡ cmAt job v
-  pub cd : (v : ℕ) → v < k → column cdStart t v ≡ cdAt job v
-  pub rd : (v : ℕ) → v < k → column rdStart t v ≡ rdAt job v
-  pub rm : (v : ℕ) → v < k → column rmStart t v ≡ rmAt job v
+  pub pairs : (x y : ℕ) → x < y → y ≤ job .tasks → entryOf t x y ≡ energyFactorsAt powers job x y
+  pub cm : (v : ℕ) → v < k → column cmStart t v ≡ powers .saving * cmAt job v
+  pub cd : (v : ℕ) → v < k → column cdStart t v ≡ powers .saving * cdAt job v
+  pub rd : (v : ℕ) → v < k → column rdStart t v ≡ powers .saving * rdAt job v
+  pub rm : (v : ℕ) → v < k → column rmStart t v ≡ powers .saving * rmAt job v
 
--- the table holds the chain of the job, up to its last task, within bounds
-pub record TableOf (job : Job) (t : List ℕ) : Type 0 where
+-- the table holds the chain of the job in energy, up to its last task, within bounds
+pub record TableOf (powers : Powers) (job : Job) (t : List ℕ) : Type 0 where
   pub bounded : Bounded (job .tasks) t
-  pub same : Same (job .tasks) (chainIn t) (chainOf job)
+  pub same : Same (job .tasks) (chainIn t) (energyChain powers job)
 
 -- What each function of the fill asks.
-pub record ReadyForPairs (job : Job) (sums : List ℕ) (u : ℕ) (t : List ℕ) : Type 0 where
+pub record ReadyForPairs (powers : Powers) (job : Job) (sums : List ℕ) (u : ℕ) (t : List ℕ) : Type 0 where
   pub sound : Sound job
+  pub products : ProductsFit powers job
   pub totals : Totals (job .weights) (job .tasks) sums
   pub near : u < job .tasks
-  pub filled : PairsTo job u (u + 1) t
+  pub filled : PairsTo powers job u (u + 1) t
 
-pub record ReadyForCosts (job : Job) (t : List ℕ) : Type 0 where
+pub record ReadyForCosts (powers : Powers) (job : Job) (t : List ℕ) : Type 0 where
   pub sound : Sound job
-  pub filled : PairsTo job (job .tasks) (job .tasks + 1) t
+  pub products : ProductsFit powers job
+  pub filled : PairsTo powers job (job .tasks) (job .tasks + 1) t
 
-pub record ReadyToFill (job : Job) (t : List ℕ) : Type 0 where
+pub record ReadyToFill (powers : Powers) (job : Job) (t : List ℕ) : Type 0 where
   pub sound : Sound job
+  pub products : ProductsFit powers job
   pub long : length t ≡ tableLength

@@ -10,10 +10,10 @@ use Rattle.planning.proofs.fill.fill.Tie as tie
 use borrow.Author.Needs.{needs}
 
 abbrev Inv-loop : tie.InvT-loop
-Inv-loop t₀ job n sums u₀ t u = (u ≤ job .tasks) × PairsTo job u (u + 1) t
+Inv-loop t₀ powers job n sums u₀ t u = (u ≤ job .tasks) × PairsTo powers job u (u + 1) t
 
 abbrev μ-loop : tie.MeasureT-loop
-μ-loop t₀ job n sums u₀ t u = job .tasks - u
+μ-loop t₀ powers job n sums u₀ t u = job .tasks - u
 
 totals-requires : tie.Need-totals-requires Inv-loop μ-loop
 totals-requires c κs =
@@ -23,7 +23,7 @@ totals-requires c κs =
 loop-holds : tie.Need-loop-holds Inv-loop μ-loop
 loop-holds c =
     let pre = c .before .before .pre in
-    (omega arith, pairs-none _ _ (pre .long))
+    (omega arith, pairs-none _ _ _ (pre .long))
 
 slice-aggregate-fill-pairs : tie.Need-slice-aggregate-fill-pairs Inv-loop μ-loop
 slice-aggregate-fill-pairs c = search needs
@@ -33,7 +33,7 @@ fill-pairs-requires c κs =
     let pre = c .before .before .before .before .before .before .pre in
     let totals = c .before .before .before .before .totals in
     let loop = c .before .before .before .loop in
-    record { sound = pre .sound; totals = totals .ensures; near = omega arith; filled = loop .inv .1 }
+    record { sound = pre .sound; products = pre .products; totals = totals .ensures; near = omega arith; filled = loop .inv .1 }
 
 add-u : tie.Need-add-u Inv-loop μ-loop
 add-u c =
@@ -54,7 +54,7 @@ fill-costs-requires c κs =
     let loop = c .before .before .loop in
     let args = c .before .before .before .before .before .args in
     let pre = c .before .before .before .before .before .pre in
-    let e : loop .u ≡ args .job .tasks = omega arith in record { sound = pre .sound; filled = rw e at (loop .inv .1) }
+    let e : loop .u ≡ args .job .tasks = omega arith in record { sound = pre .sound; products = pre .products; filled = rw e at (loop .inv .1) }
 
 same-length : tie.Need-same-length Inv-loop μ-loop
 same-length c =
@@ -66,7 +66,7 @@ returns : tie.Need-returns Inv-loop μ-loop
 returns c =
     let pre = c .before .before .before .before .before .before .before .before .pre in
     let fill-costs = c .before .before .fill-costs in
-    table-of _ (pre .sound) _ (fill-costs .ensures)
+    table-of _ _ (pre .sound) (pre .products) _ (fill-costs .ensures)
 
 pub fill-spec : {M : Type 1} → statement M
 fill-spec =

@@ -10,10 +10,10 @@ use Rattle.planning.proofs.fill.fill_pairs.Tie as tie
 use borrow.Author.Needs.{needs}
 
 abbrev Inv-loop : tie.InvT-loop
-Inv-loop t₀ sums u job n platform v₀ t v = (u < v) × (v ≤ job .tasks + 1) × PairsTo job u v t
+Inv-loop t₀ powers sums u job n platform v₀ t v = (u < v) × (v ≤ job .tasks + 1) × PairsTo powers job u v t
 
 abbrev μ-loop : tie.MeasureT-loop
-μ-loop t₀ sums u job n platform v₀ t v = (job .tasks + 1) - v
+μ-loop t₀ powers sums u job n platform v₀ t v = (job .tasks + 1) - v
 
 add-v : tie.Need-add-v Inv-loop μ-loop
 add-v c =
@@ -25,53 +25,53 @@ loop-holds c =
     let pre = c .before .before .before .pre in
     (omega arith, omega (arith, pre .near), pre .filled)
 
-mul-stretch-factors : tie.Need-mul-stretch-factors Inv-loop μ-loop
-mul-stretch-factors c =
+mul-energy-factors : tie.Need-mul-energy-factors Inv-loop μ-loop
+mul-energy-factors c =
     let pre = c .before .before .before .before .before .pre in
     omega (arith, pre .sound .few-tasks)
 
-shared-slice-read-stretch-factors : tie.Need-shared-slice-read-stretch-factors Inv-loop μ-loop
-shared-slice-read-stretch-factors c =
+shared-slice-read-energy-factors : tie.Need-shared-slice-read-energy-factors Inv-loop μ-loop
+shared-slice-read-energy-factors c =
     let pre = c .before .before .before .before .before .before .pre in
     omega (arith, pre .totals .long, pre .sound .few-tasks)
 
-mul-stretch-factors-2 : tie.Need-mul-stretch-factors-2 Inv-loop μ-loop
-mul-stretch-factors-2 c =
+mul-energy-factors-2 : tie.Need-mul-energy-factors-2 Inv-loop μ-loop
+mul-energy-factors-2 c =
     let pre = c .before .before .before .before .before .before .pre in
     omega (arith, pre .near, pre .sound .few-tasks)
 
-shared-slice-read-stretch-factors-2 : tie.Need-shared-slice-read-stretch-factors-2 Inv-loop μ-loop
-shared-slice-read-stretch-factors-2 c =
+shared-slice-read-energy-factors-2 : tie.Need-shared-slice-read-energy-factors-2 Inv-loop μ-loop
+shared-slice-read-energy-factors-2 c =
     let pre = c .before .before .before .before .before .before .before .pre in
     omega (arith, pre .totals .long, pre .near, pre .sound .few-tasks)
 
-sub-stretch-factors : tie.Need-sub-stretch-factors Inv-loop μ-loop
-sub-stretch-factors c =
+sub-energy-factors : tie.Need-sub-energy-factors Inv-loop μ-loop
+sub-energy-factors c =
     let args = c .before .before .before .before .before .before .before .args in
     let pre = c .before .before .before .before .before .before .before .pre in
     let loop = c .before .before .before .loop in
-    totals-between (args .job) (pre .sound) _ (pre .totals) (args .u) (loop .v) (loop .inv .0) (omega arith) .order
+    totals-between _ (args .job) (pre .sound) (pre .products) _ (pre .totals) (args .u) (loop .v) (loop .inv .0) (omega arith) .order
 
 v-at-requires : tie.Need-v-at-requires Inv-loop μ-loop
 v-at-requires c κs = search needs
 
-stretch-factors-requires : tie.Need-stretch-factors-requires Inv-loop μ-loop
-stretch-factors-requires c κs =
+energy-factors-requires : tie.Need-energy-factors-requires Inv-loop μ-loop
+energy-factors-requires c κs =
     let args = c .before .before .before .before .before .before .before .before .args in
     let pre = c .before .before .before .before .before .before .before .before .pre in
     let loop = c .before .before .before .before .loop in
     let v-at = c .v-at in
-    let weighed = totals-between (args .job) (pre .sound) _ (pre .totals) (args .u) (loop .v) (loop .inv .0) (omega arith) in
+    let weighed = totals-between _ (args .job) (pre .sound) (pre .products) _ (pre .totals) (args .u) (loop .v) (loop .inv .0) (omega arith) in
     rw (weighed .weight, v-at .ensures .value) (weighed .ready)
 
 put-pair-requires : tie.Need-put-pair-requires Inv-loop μ-loop
 put-pair-requires c κs =
     let loop = c .before .before .before .before .before .before .loop in
     let pre = c .before .before .before .before .before .before .before .before .before .before .pre in
-    let stretch-factors = c .before .stretch-factors in
+    let energy-factors = c .before .energy-factors in
     record {
       fits = record { long = loop .inv .2 .long; pair = record { order = loop .inv .0; few = omega (arith, pre .sound .few-tasks) } };
-      packable = rw (stretch-factors .ensures) (factors-packable _ _ _);
+      packable = rw (energy-factors .ensures) (factors-packable _ _ _ _);
     }
 
 add-v-2 : tie.Need-add-v-2 Inv-loop μ-loop
@@ -88,14 +88,14 @@ loop-again c =
     let pre = c .before .before .before .before .before .before .before .before .before .before .before .before .before .pre in
     let loop = c .before .before .before .before .before .before .before .before .before .loop in
     let v-at = c .before .before .before .before .before .v-at in
-    let stretch-factors = c .before .before .before .before .stretch-factors in
+    let energy-factors = c .before .before .before .before .energy-factors in
     let put-pair = c .before .before .put-pair in
-    let weighed = totals-between (args .job) (pre .sound) _ (pre .totals) (args .u) (loop .v) (loop .inv .0) (omega arith) in
-    let factors = rw (weighed .weight, v-at .ensures .value) at (stretch-factors .ensures) in (
+    let weighed = totals-between _ (args .job) (pre .sound) (pre .products) _ (pre .totals) (args .u) (loop .v) (loop .inv .0) (omega arith) in
+    let factors = rw (weighed .weight, v-at .ensures .value) at (energy-factors .ensures) in (
       omega arith,
       omega arith,
       rw (put-pair .ensures)
-          (pairs-more _ _ _ _ (loop .inv .2) (loop .inv .0) (omega arith) (omega (arith, pre .sound .few-tasks)) _ factors),
+          (pairs-more _ _ _ _ _ (loop .inv .2) (loop .inv .0) (omega arith) (omega (arith, pre .sound .few-tasks)) _ factors),
     )
 
 same-length : tie.Need-same-length Inv-loop μ-loop
@@ -107,7 +107,7 @@ same-length c =
 returns : tie.Need-returns Inv-loop μ-loop
 returns c =
     let loop = c .before .loop in
-    pairs-next _ _ _ _ (loop .inv .2) (omega arith)
+    pairs-next _ _ _ _ _ (loop .inv .2) (omega arith)
 
 pub fill-pairs-spec : {M : Type 1} → statement M
 fill-pairs-spec =
@@ -117,13 +117,13 @@ fill-pairs-spec =
     μ-loop
     add-v
     loop-holds
-    mul-stretch-factors
-    shared-slice-read-stretch-factors
-    mul-stretch-factors-2
-    shared-slice-read-stretch-factors-2
-    sub-stretch-factors
+    mul-energy-factors
+    shared-slice-read-energy-factors
+    mul-energy-factors-2
+    shared-slice-read-energy-factors-2
+    sub-energy-factors
     v-at-requires
-    stretch-factors-requires
+    energy-factors-requires
     put-pair-requires
     add-v-2
     loop-less

@@ -1,0 +1,40 @@
+// Takes two powers, one for computing and verifying, one for saving and recovering, reads a job sheet from standard input and prints its plan by energy: the
+// least energy, then one digit a task; or the number of its refusal.
+use costs::Powers;
+use job::TASK_LIMIT;
+use planning::energy::plan_energy;
+use sheet::SHEET_ROOM;
+use sheet::layout::task_count;
+
+// The plan of the sheet by energy.
+fn show(sheet: &[u8], powers: Powers) {
+    let mut marks = [0u8; TASK_LIMIT];
+    let answer = plan_energy(sheet, powers, &mut marks);
+    console::plan(b"energy", answer, marks, task_count(sheet));
+}
+
+// The plan of the sheet on standard input.
+fn plan(powers: Powers) {
+    let mut sheet = [0u8; SHEET_ROOM];
+    let taken = console::read_sheet(&mut sheet);
+    if taken.failed {
+        return;
+    }
+    let n = taken.n;
+    show(&sheet[..n], powers);
+}
+
+fn main() {
+    let computing = console::read_number(1, b"computing power");
+    if computing.failed {
+        return;
+    }
+    let saving = console::read_number(2, b"saving power");
+    if saving.failed {
+        return;
+    }
+    plan(Powers {
+        computing: computing.value,
+        saving: saving.value,
+    });
+}

@@ -1,0 +1,21 @@
+-- `planning::energy::passes` meets its contract. A power in range times a total of weights is below 2^64. Assumes nothing.
+use Prim.Native.Nat.{_*_, _^_}
+use mathlib.Core.Path.{refl}
+use native.Mathlib.Omega.{arith}
+use Rattle.chain.proofs.Products.{capped}
+use Rattle.job.specs.Job.{taskLimit}
+use Rattle.planning.specs.Energy.{mostPower, passes}
+use Rattle.planning.proofs.energy.passes.Statement.{statement}
+use Rattle.planning.proofs.energy.passes.Tie as tie
+
+mul-result : tie.Need-mul-result
+mul-result c =
+    let pre = c .pre in
+    record { fits = omega (arith, capped mostPower (taskLimit * 2 ^ 32) (pre .power-range) (pre .amount-range)) }
+
+returns : tie.Need-returns
+unfolding passes
+returns c = refl
+
+pub passes-spec : {M : Type 1} → statement M
+passes-spec = tie.close (tie.spec mul-result returns)
