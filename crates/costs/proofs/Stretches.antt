@@ -108,7 +108,15 @@ unfolding energyChain chainOf
 plain-same n job =
     record {
       allowed = λ u v a b. refl;
-      stretch = λ u v m d Q' M' x y a b. rw (energy-factors plain job u v m d Q' M', S-factors job u v m d Q' M', plain-factors (job .platform) (between (job .weights) u v) (vAt job v), one-mul (rdAt job d), one-mul (rmAt job m));
+      stretch =
+          λ u v m d Q' M' x y a b.
+          rw (
+            energy-factors plain job u v m d Q' M',
+            S-factors job u v m d Q' M',
+            plain-factors (job .platform) (between (job .weights) u v) (vAt job v),
+            one-mul (rdAt job d),
+            one-mul (rmAt job m),
+          );
       cm = λ v a b. one-mul (cmAt job v);
       cd = λ v a b. one-mul (cdAt job v);
     }

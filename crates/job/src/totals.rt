@@ -10,8 +10,8 @@ pub fn wide(x: u32) -> u64
     x as u64
 }
 
-// The weight of the first n tasks, of weights in any range. Runs, joins, plans by energy and the equations as printed ask for a position of a task count that has passed check 3,
-// which is a place of the array.
+// The weight of the first n tasks, of weights in any range. Runs, joins, plans by energy and the equations as printed ask for a position of a task count that
+// has passed check 3, which is a place of the array.
 pub fn weight_to(weights: [u32; TASK_LIMIT], n: usize) -> u64
     requires { ⌜ n ≤ taskLimit ⌝ }
     ensures { λ r. ⌜ (r ≡ total weights n) × (r ≤ taskLimit * 2 ^ 32) ⌝ }

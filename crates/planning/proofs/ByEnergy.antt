@@ -34,7 +34,7 @@ use Rattle.costs.specs.declared.Powers.{Powers}
 use Rattle.costs.proofs.Ranges.{plain-products}
 use Rattle.costs.proofs.Settings.{checks-setting, setting-checks}
 use Rattle.costs.proofs.Stretches.{energy-rises, plain-same}
-use Rattle.planning.specs.Promise.{Refused, Planned, PlansChain, AnswerSays, Plans}
+use Rattle.planning.specs.Promise.{Refused, Planned, AnswerSays, Plans}
 use Rattle.planning.specs.Energy.{mostPower, badPowers, energyRefusal, PlansByEnergy, LeastEnergy, PowersFit, SamePower}
 use Rattle.planning.proofs.Powers.{powers-fit, energy-sheet, energy-bad, energy-clear}
 use Rattle.planning.proofs.Promises.{plans-same}

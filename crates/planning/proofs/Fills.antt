@@ -64,8 +64,8 @@ pub record Weighed (powers : Powers) (job : Job) (u v low high : ℕ) : Type 0 w
   pub weight : high - low ≡ between (job .weights) u v
   pub ready : ReadyForEnergy powers (between (job .weights) u v) (vAt job v)
 
-pub totals-between : (powers : Powers) (job : Job) → Sound job → ProductsFit powers job → (sums : List ℕ) → Totals (job .weights) (job .tasks) sums → (u v : ℕ) → u < v → v ≤ job .tasks
-    → Weighed powers job u v (getD sums u 0) (getD sums v 0)
+pub totals-between : (powers : Powers) (job : Job) → Sound job → ProductsFit powers job → (sums : List ℕ) → Totals (job .weights) (job .tasks) sums
+    → (u v : ℕ) → u < v → v ≤ job .tasks → Weighed powers job u v (getD sums u 0) (getD sums v 0)
 unfolding between
 totals-between powers job sound products sums h u v a b =
     record {

@@ -1,7 +1,7 @@
 -- Check 29: what a test of a power has found, the first refusal of a plan by energy, and what it means that 29 does not hold. Assumes nothing.
 use Prim.Native.Nat.{ℕ, _*_, _≤_, _<_, _^_}
 use mathlib.Core.Path.{_≡_, refl, sym, _∙_}
-use mathlib.Core.Bool.{Bool, true, false, _||_}
+use mathlib.Core.Bool.{Bool, true, false}
 use mathlib.Core.Logic.{_↔_}
 use mathlib.Core.List.{List, []}
 use borrow.Author.Tests.{le-ltb, ltb-false}

@@ -1,6 +1,6 @@
 -- `console::value_of` meets its contract. The loop's invariant: n is the number of the digits before j. The measure is what is left of the text. Assumes nothing.
 use Prim.Native.Nat.{_-_, _≤_}
-use mathlib.Core.Path.{_≡_, refl, sym, _∙_}
+use mathlib.Core.Path.{_≡_, refl, _∙_}
 use native.Mathlib.Omega.{arith}
 use lib.ListN.{length}
 use Rattle.lists.proofs.Lists.{some-fails}

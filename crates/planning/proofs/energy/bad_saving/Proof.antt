@@ -51,7 +51,16 @@ returns-3 c =
     let if2 = c .before .before .before .if2 in
     let wide2 = c .before .before .wide2 in
     let passes2 = c .before .passes2 in
-    rw (← (out-of-range .ensures), if1 .left, ← (wide .ensures .0), ← (passes .ensures), if2 .left, ← (wide2 .ensures .0), ← (passes2 .ensures), c .if3 .taken)
+    rw (
+      ← (out-of-range .ensures),
+      if1 .left,
+      ← (wide .ensures .0),
+      ← (passes .ensures),
+      if2 .left,
+      ← (wide2 .ensures .0),
+      ← (passes2 .ensures),
+      c .if3 .taken,
+    )
 
 wide-requires-3 : tie.Need-wide-requires-3
 wide-requires-3 c κs = search needs
@@ -75,7 +84,19 @@ returns-4 c =
     let if3 = c .before .before .before .if3 in
     let wide3 = c .before .before .wide3 in
     let passes3 = c .before .passes3 in
-    rw (← (out-of-range .ensures), if1 .left, ← (wide .ensures .0), ← (passes .ensures), if2 .left, ← (wide2 .ensures .0), ← (passes2 .ensures), if3 .left, ← (wide3 .ensures .0), ← (passes3 .ensures), c .if4 .taken)
+    rw (
+      ← (out-of-range .ensures),
+      if1 .left,
+      ← (wide .ensures .0),
+      ← (passes .ensures),
+      if2 .left,
+      ← (wide2 .ensures .0),
+      ← (passes2 .ensures),
+      if3 .left,
+      ← (wide3 .ensures .0),
+      ← (passes3 .ensures),
+      c .if4 .taken,
+    )
 
 wide-requires-4 : tie.Need-wide-requires-4
 wide-requires-4 c κs = search needs
@@ -102,7 +123,21 @@ returns-5 c =
     let if4 = c .before .before .if4 in
     let wide4 = c .before .wide4 in
     let passes4 = c .passes4 in
-    rw (← (out-of-range .ensures), if1 .left, ← (wide .ensures .0), ← (passes .ensures), if2 .left, ← (wide2 .ensures .0), ← (passes2 .ensures), if3 .left, ← (wide3 .ensures .0), ← (passes3 .ensures), if4 .left, ← (wide4 .ensures .0), ← (passes4 .ensures))
+    rw (
+      ← (out-of-range .ensures),
+      if1 .left,
+      ← (wide .ensures .0),
+      ← (passes .ensures),
+      if2 .left,
+      ← (wide2 .ensures .0),
+      ← (passes2 .ensures),
+      if3 .left,
+      ← (wide3 .ensures .0),
+      ← (passes3 .ensures),
+      if4 .left,
+      ← (wide4 .ensures .0),
+      ← (passes4 .ensures),
+    )
 
 pub bad-saving-spec : {M : Type 1} → statement M
 bad-saving-spec =
