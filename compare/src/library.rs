@@ -7,11 +7,13 @@ use crate::log_writer;
 use crate::types::{Event, Outcome, Run};
 
 #[cfg(feature = "linked")]
-pub use linked::{follow, growth, join, lookup, mean_growth, plan, price, printed, start, NAME};
+pub use linked::{
+    energy, follow, growth, join, lookup, mean_growth, plan, price, printed, start, NAME,
+};
 
 #[cfg(not(feature = "linked"))]
 pub use crate::reference::calls::{
-    follow, growth, join, lookup, mean_growth, plan, price, printed, start,
+    energy, follow, growth, join, lookup, mean_growth, plan, price, printed, start,
 };
 
 #[cfg(not(feature = "linked"))]
@@ -24,7 +26,7 @@ pub fn step(run: &Run, event: Event) -> Outcome {
 
 #[cfg(feature = "linked")]
 mod linked {
-    use crate::types::{Answer, Found, Joined, Outcome, Run};
+    use crate::types::{Answer, Found, Joined, Outcome, Powers, Run};
 
     pub const NAME: &str = "linked";
 
@@ -44,6 +46,14 @@ mod linked {
         fn pulvanor_price(s: *const u8, s_len: usize, m: *const u8, m_len: usize) -> Answer;
         fn pulvanor_plan(s: *const u8, s_len: usize, b: *mut u8, b_len: usize) -> Answer;
         fn pulvanor_printed(s: *const u8, s_len: usize, b: *mut u8, b_len: usize) -> Answer;
+        fn pulvanor_energy(
+            s: *const u8,
+            s_len: usize,
+            computing: u64,
+            saving: u64,
+            b: *mut u8,
+            b_len: usize,
+        ) -> Answer;
         fn pulvanor_start(s: *const u8, s_len: usize, m: *const u8, m_len: usize) -> Outcome;
         fn pulvanor_follow(run: Run, log: *const u8, log_len: usize) -> Outcome;
     }
@@ -81,6 +91,12 @@ mod linked {
     pub fn printed(sheet: &[u8], buffer: &mut [u8]) -> Answer {
         let (start, len) = (buffer.as_mut_ptr(), buffer.len());
         unsafe { pulvanor_printed(sheet.as_ptr(), sheet.len(), start, len) }
+    }
+
+    pub fn energy(sheet: &[u8], powers: Powers, buffer: &mut [u8]) -> Answer {
+        let (start, len) = (buffer.as_mut_ptr(), buffer.len());
+        let Powers { computing, saving } = powers;
+        unsafe { pulvanor_energy(sheet.as_ptr(), sheet.len(), computing, saving, start, len) }
     }
 
     pub fn start(sheet: &[u8], marks: &[u8]) -> Outcome {

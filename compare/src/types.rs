@@ -23,6 +23,15 @@ pub struct Platform {
     pub rm: u32,
 }
 
+/// A user's two powers, of any size until they are checked.
+#[derive(Clone, Copy, Debug, PartialEq, Eq)]
+pub struct Powers {
+    /// Of computing and verifying.
+    pub computing: u64,
+    /// Of saving and recovering.
+    pub saving: u64,
+}
+
 /// A sheet's values. Weights past the last task are 0 in a sheet's job.
 #[derive(Clone, Copy, Debug, PartialEq, Eq)]
 #[repr(C)]
@@ -85,7 +94,8 @@ pub struct Joined {
     pub length: usize,
 }
 
-/// The answer to a price or a plan: 0 or the refusal, and a time.
+/// The answer to a price or a plan: 0 or the refusal, and a time, or an energy
+/// for a plan by energy.
 #[derive(Clone, Copy, Debug, PartialEq, Eq)]
 #[repr(C)]
 pub struct Answer {

@@ -1,16 +1,17 @@
 //! The known examples of document 01 and of the requests, against the
 //! reference.
 
+use compare::reference::energy::{energy, EnergyCosts};
 use compare::reference::growth::{g, h};
 use compare::reference::join::join;
 use compare::reference::log;
 use compare::reference::plan;
 use compare::reference::printed;
 use compare::reference::run::{self, History};
-use compare::reference::setting::price;
+use compare::reference::setting::{self, price};
 use compare::reference::sheet::{self, lookup, Section};
 use compare::sheet_writer;
-use compare::types::{Event, Platform, Run};
+use compare::types::{Event, Platform, Powers, Run};
 
 const UNIT: u128 = 1 << 24;
 
@@ -116,6 +117,86 @@ fn disk_recovery_refills_memory() {
     assert_eq!((place.position, place.sums.recovery), (1, 5000));
     let place = run_under(&[3, 3], &[Done, Passed, Done, Failed]).place;
     assert_eq!((place.position, place.sums.recovery), (1, 1000));
+}
+
+/// Request 106: four plans of one sheet, and the energy of one setting.
+#[test]
+fn plans_by_energy() {
+    let platform = Platform {
+        failstop: 1 << 26,
+        silent: 1 << 28,
+        cd: 300000,
+        cm: 60000,
+        v: 9000,
+        rd: 200000,
+        rm: 70000,
+    };
+    let sheet = sheet_writer::sheet(&platform, &[1048583, 500009, 700001, 900007]);
+    let of = |computing, saving| energy(&sheet, Powers { computing, saving }, 4);
+    assert_eq!(of(1, 1), Ok((9972471, vec![3, 3, 3, 3])));
+    assert_eq!(of(1, 1), plan::plan(&sheet, 4));
+    assert_eq!(of(1, 16), Ok((30726004, vec![2, 2, 3, 3])));
+    assert_eq!(of(3, 5), Ok((33515995, vec![3, 2, 3, 3])));
+    let job = sheet::read(&sheet).unwrap();
+    let costs = EnergyCosts::new(&job, Powers { computing: 3, saving: 5 });
+    assert_eq!(setting::time_under(&costs, &job, &[2, 1, 3, 3]), 41752193);
+}
+
+/// Request 106: the range of the powers, and 29 after 8 and before 11.
+#[test]
+fn range_of_powers() {
+    let a = sheet_a();
+    let of = |computing, saving| energy(&a, Powers { computing, saving }, 2).map(|_| ());
+    assert_eq!([of(1, 1), of(16, 16), of(1, 16), of(16, 1)], [Ok(()); 4]);
+    for power in [0, 17, 1 << 8, (1 << 8) + 1, (1 << 32) + 1, 1 << 63, u64::MAX] {
+        assert_eq!([of(power, 1), of(1, power), of(power, power)], [Err(29); 3]);
+    }
+    let short = |computing| energy(&a, Powers { computing, saving: 1 }, 1);
+    assert_eq!((short(16), short(17)), (Err(11), Err(29)));
+    let silent = Platform { silent: 1 << 31, ..FREE };
+    let alone = sheet_writer::sheet(&silent, &[524289]);
+    assert_eq!(energy(&alone, Powers { computing: 0, saving: 0 }, 0), Err(8));
+}
+
+/// Request 106: each product may be 2^30, and none may pass it. The total is
+/// that of all tasks, and recoveries are not added up.
+#[test]
+fn products_of_powers() {
+    let edge = 1 << 26;
+    let of = |platform: Platform, weights: &[u32], computing, saving| {
+        let sheet = sheet_writer::sheet(&platform, weights);
+        energy(&sheet, Powers { computing, saving }, weights.len()).map(|(energy, _)| energy)
+    };
+    let largest = Platform { cd: edge, cm: edge, v: edge, rd: edge, rm: edge, ..FREE };
+    assert_eq!(of(largest, &[edge - 1, 1], 16, 16), Ok(1 << 32));
+    assert_eq!(of(FREE, &[edge, 1], 16, 1), Err(29));
+    assert_eq!(of(FREE, &[edge, 1], 15, 16), Ok(15 * (u64::from(edge) + 1)));
+    let over = edge + 1;
+    assert_eq!(of(Platform { v: over, ..FREE }, &[1], 16, 1), Err(29));
+    assert_eq!(of(Platform { v: over, ..FREE }, &[1], 1, 16), Ok(u64::from(over) + 1));
+    let saved = [
+        Platform { cd: over, ..FREE },
+        Platform { cm: over, ..FREE },
+        Platform { rd: over, ..FREE },
+        Platform { rm: over, ..FREE },
+    ];
+    for platform in saved {
+        assert_eq!(of(platform, &[1], 1, 16), Err(29));
+        assert!(of(platform, &[1], 16, 1).is_ok());
+    }
+}
+
+/// Request 106: the limit is on the energy.
+#[test]
+fn energy_limit() {
+    let of = |cd: u32| {
+        let platform = Platform { silent: 11 << 20, cd, ..FREE };
+        sheet_writer::sheet(&platform, &[1 << 26])
+    };
+    let powers = Powers { computing: 16, saving: 1 };
+    assert_eq!(energy(&of(383721023), powers, 1), Ok(((1 << 34) - 1, vec![3])));
+    assert_eq!(energy(&of(383721024), powers, 1), Err(13));
+    assert!(plan::plan(&of(383721024), 1).is_ok());
 }
 
 #[test]

@@ -4,10 +4,13 @@ use compare::harness::check;
 use compare::harness::jobs;
 use compare::harness::tally::{Call, Tally, NUMBERS, WANTED};
 use compare::random::Random;
+use compare::reference::energy::{self, EnergyCosts, MAX_POWER};
 use compare::reference::plan;
 use compare::reference::printed::{self, MAX_PRINTED_TASKS};
 use compare::reference::setting::MAX_TIME;
 use compare::reference::sheet;
+use compare::reference::stretch::Table;
+use compare::types::Powers;
 
 /// Two ways to one plan, on jobs made to have ties and edges.
 #[test]
@@ -20,6 +23,30 @@ fn rows_agree_with_trying() {
             continue;
         }
         let (tried, rows) = (plan::by_trying(&job), plan::by_rows(&job));
+        if tried.time <= MAX_TIME {
+            assert_eq!(tried, rows);
+            compared += 1;
+        } else {
+            assert!(rows.time > MAX_TIME);
+        }
+    }
+}
+
+/// The same by energy.
+#[test]
+fn rows_agree_with_trying_by_energy() {
+    let mut random = Random::new(13);
+    let mut compared = 0;
+    while compared < 400 {
+        let job = jobs::any(&mut random, 5).job;
+        let mut power = || random.between(1, MAX_POWER);
+        let powers = Powers { computing: power(), saving: power() };
+        if sheet::check_values(&job).is_err() || energy::check_powers(&job, powers).is_err() {
+            continue;
+        }
+        let costs = EnergyCosts::new(&job, powers);
+        let tried = plan::by_trying_under(&costs, &job);
+        let rows = plan::by_rows_under(&costs, &Table::new(&job));
         if tried.time <= MAX_TIME {
             assert_eq!(tried, rows);
             compared += 1;
@@ -77,7 +104,7 @@ fn complete_needs_every_number_and_every_edge_often() {
         assert!(!tally.complete());
         (0..WANTED).for_each(|_| tally.count(Call::Plan, number));
     }
-    let edges: [fn(&mut Tally) -> &mut u64; 18] = [
+    let edges: [fn(&mut Tally) -> &mut u64; 27] = [
         |t| &mut t.joins.of_64,
         |t| &mut t.joins.of_65,
         |t| &mut t.joins.at_total,
@@ -96,6 +123,15 @@ fn complete_needs_every_number_and_every_edge_often() {
         |t| &mut t.strays.before_kinds,
         |t| &mut t.strays.after_extents,
         |t| &mut t.strays.weights_first,
+        |t| &mut t.energies.as_time,
+        |t| &mut t.energies.other_marks,
+        |t| &mut t.energies.short,
+        |t| &mut t.energies.outside,
+        |t| &mut t.energies.over_product,
+        |t| &mut t.energies.at_product,
+        |t| &mut t.energies.too_dear,
+        |t| &mut t.energies.at_limit,
+        |t| &mut t.energies.over_limit,
     ];
     for edge in edges {
         assert!(!tally.complete());

@@ -1,8 +1,9 @@
 //! Compares library and reference on one random sheet and runs of it.
 
+use crate::harness::energies;
 use crate::harness::jobs::{self, Case};
 use crate::harness::joins;
-use crate::harness::lent::Lent;
+use crate::harness::lent::{self, Lent};
 use crate::harness::marks;
 use crate::harness::runs;
 use crate::harness::sheets;
@@ -51,6 +52,7 @@ impl Check<'_> {
         self.count_strays(job.as_ref().err().copied().unwrap_or(0));
         self.plan(case.job.tasks);
         self.printed(case.job.tasks, job.is_ok());
+        energies::one(self.random, self.tally, &self.sheet, &case.job);
         let Ok(job) = job else {
             let marks = marks::for_sheet(self.random, case.job.tasks);
             self.price(&marks);
@@ -158,20 +160,9 @@ impl Check<'_> {
         self.tally.over_limit += u64::from(time == MAX_TIME + 1);
     }
 
-    fn buffer_size(&mut self, n: usize) -> usize {
-        match self.random.below(20) {
-            0 => n - 1,
-            1 => self.random.index(n),
-            2..=9 => n,
-            10..=14 => n + 1 + self.random.index(8),
-            15..=17 => MAX_TASKS.max(n),
-            _ => 200,
-        }
-    }
-
     /// A plan into a buffer with guards; the whole memory is compared.
     fn plan(&mut self, n: usize) {
-        let size = self.buffer_size(n);
+        let size = lent::room(self.random, n);
         let mut lent = Lent::new(self.random, size);
         let mut library_lent = lent.clone();
         let library = library::plan(&self.sheet, library_lent.buffer());
@@ -188,7 +179,7 @@ impl Check<'_> {
     /// and then, into a short one too.
     fn printed(&mut self, n: usize, read: bool) {
         let long = n > MAX_PRINTED_TASKS && self.random.chance(50);
-        let size = if long { self.random.index(n) } else { self.buffer_size(n) };
+        let size = if long { self.random.index(n) } else { lent::room(self.random, n) };
         self.printed_into(size, read);
         if size < n {
             self.printed_into(n, read);

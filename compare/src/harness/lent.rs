@@ -2,8 +2,21 @@
 //! the same if all their memory is.
 
 use crate::random::Random;
+use crate::types::MAX_TASKS;
 
 const GUARD: usize = 16;
+
+/// Room for n marks, often just enough, and now and then too little.
+pub fn room(r: &mut Random, n: usize) -> usize {
+    match r.below(20) {
+        0 => n - 1,
+        1 => r.index(n),
+        2..=9 => n,
+        10..=14 => n + 1 + r.index(8),
+        15..=17 => MAX_TASKS.max(n),
+        _ => 200,
+    }
+}
 
 #[derive(Clone, Debug, PartialEq, Eq)]
 pub struct Lent {

@@ -1,10 +1,12 @@
 //! Makes inputs, asks library and reference, and counts.
 
 pub mod check;
+mod energies;
 pub mod jobs;
 mod joins;
 mod lent;
 pub mod marks;
+mod powers;
 pub mod runs;
 pub mod sheets;
 pub mod tally;

@@ -10,16 +10,18 @@ pub enum Call {
     Price,
     Plan,
     Printed,
+    Energy,
     Start,
     Step,
     Follow,
 }
 
-const CALLS: [&str; 8] = ["lookup", "join", "price", "plan", "printed", "start", "step", "follow"];
+const CALLS: [&str; 9] =
+    ["lookup", "join", "price", "plan", "printed", "energy", "start", "step", "follow"];
 
 /// Every refusal number of document 01 and of the requests.
-pub const NUMBERS: [u64; 21] =
-    [1, 2, 3, 4, 5, 28, 6, 7, 8, 9, 10, 11, 12, 13, 21, 22, 23, 24, 25, 26, 27];
+pub const NUMBERS: [u64; 22] =
+    [1, 2, 3, 4, 5, 28, 6, 7, 8, 9, 10, 11, 12, 13, 21, 22, 23, 24, 25, 26, 27, 29];
 
 /// How often each refusal is to be seen in the default run.
 pub const WANTED: u64 = 100;
@@ -75,6 +77,29 @@ pub struct Strays {
     pub weights_first: u64,
 }
 
+/// Plans by energy at an edge (request 106).
+#[derive(Default)]
+pub struct Energies {
+    /// Plans with powers 1 and 1 beside the time plan.
+    pub as_time: u64,
+    /// Plans whose marks are not those of the time plan.
+    pub other_marks: u64,
+    /// Refused by 29 though the buffer is short too.
+    pub short: u64,
+    /// Refused by 29 for a power out of range.
+    pub outside: u64,
+    /// Refused by 29 for a product alone.
+    pub over_product: u64,
+    /// Plans with a product of 2^30, not by powers 1 and 1.
+    pub at_product: u64,
+    /// Refused by 13 where the time plan is a result.
+    pub too_dear: u64,
+    /// Energies of 2^34 - 1, not by powers 1 and 1.
+    pub at_limit: u64,
+    /// Least energies of 2^34, refused by 13, not by powers 1 and 1.
+    pub over_limit: u64,
+}
+
 #[derive(Default)]
 pub struct Tally {
     pub sheets: u64,
@@ -86,8 +111,9 @@ pub struct Tally {
     pub refills: Refills,
     pub printed: Printed,
     pub strays: Strays,
+    pub energies: Energies,
     pub differences: u64,
-    counts: [[u64; 29]; 8],
+    counts: [[u64; 30]; 9],
 }
 
 fn hex(bytes: &[u8]) -> String {
@@ -131,8 +157,9 @@ impl Tally {
     }
 
     /// How often each edge of the requests was seen.
-    fn edges(&self) -> [(&'static str, u64); 18] {
+    fn edges(&self) -> [(&'static str, u64); 27] {
         let (j, r, p, s) = (&self.joins, &self.refills, &self.printed, &self.strays);
+        let e = &self.energies;
         [
             ("joined, 64 tasks", j.of_64),
             ("refused, 65", j.of_65),
@@ -152,6 +179,15 @@ impl Tally {
             ("28 before 6", s.before_kinds),
             ("5 before 28", s.after_extents),
             ("weights first", s.weights_first),
+            ("energy as time", e.as_time),
+            ("with other marks", e.other_marks),
+            ("29 before 11", e.short),
+            ("29 by a power", e.outside),
+            ("29 by a product", e.over_product),
+            ("products of 2^30", e.at_product),
+            ("13 by energy", e.too_dear),
+            ("energy 2^34 - 1", e.at_limit),
+            ("energy 2^34", e.over_limit),
         ]
     }
 
@@ -182,6 +218,7 @@ impl Tally {
         println!("settings priced   {}", self.calls(Call::Price));
         println!("plans             {}", self.calls(Call::Plan));
         println!("plans as printed  {}", self.calls(Call::Printed));
+        println!("plans by energy   {}", self.calls(Call::Energy));
         println!("starts            {}", self.calls(Call::Start));
         println!("steps             {}", self.calls(Call::Step));
         println!("logs              {}", self.calls(Call::Follow));

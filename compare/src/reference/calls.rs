@@ -1,6 +1,7 @@
 //! The library's calls as document 01 and the requests have them: the same types, and what a
 //! refusal hands back.
 
+use crate::reference::energy as by_energy;
 use crate::reference::growth::{g, h};
 use crate::reference::join as joiner;
 use crate::reference::log;
@@ -10,7 +11,8 @@ use crate::reference::run::{self, History};
 use crate::reference::setting;
 use crate::reference::sheet;
 use crate::types::{
-    Answer, Event, Found, Job, Joined, Outcome, Place, Platform, Refusal, Run, Sums, MAX_TASKS,
+    Answer, Event, Found, Job, Joined, Outcome, Place, Platform, Powers, Refusal, Run, Sums,
+    MAX_TASKS,
 };
 
 /// The state of a refused start.
@@ -81,6 +83,11 @@ pub fn plan(bytes: &[u8], buffer: &mut [u8]) -> Answer {
 
 pub fn printed(bytes: &[u8], buffer: &mut [u8]) -> Answer {
     planned(equations::printed(bytes, buffer.len()), buffer)
+}
+
+/// The energy is in the answer's time.
+pub fn energy(bytes: &[u8], powers: Powers, buffer: &mut [u8]) -> Answer {
+    planned(by_energy::energy(bytes, powers, buffer.len()), buffer)
 }
 
 pub fn start(bytes: &[u8], marks: &[u8]) -> Outcome {

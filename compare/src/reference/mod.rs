@@ -1,6 +1,7 @@
 //! Document 01 and the requests, followed literally. Plain and slow on purpose.
 
 pub mod calls;
+pub mod energy;
 pub mod growth;
 pub mod join;
 pub mod log;

@@ -3,13 +3,14 @@
 
 use crate::reference::setting::{self, CEILING};
 use crate::reference::sheet;
-use crate::reference::stretch::{self, Before, Table};
+use crate::reference::stretch::{Before, Costs, Table};
 use crate::types::{Job, Refusal};
 
 /// Up to this many tasks every setting is tried.
 pub const MAX_TRIED_TASKS: usize = 6;
 
-/// A setting and its time, which may be beyond what an answer holds.
+/// A setting and its time under some costs, which may be beyond what an answer
+/// holds.
 #[derive(Clone, Debug, PartialEq, Eq)]
 pub struct Plan {
     pub time: u128,
@@ -43,8 +44,9 @@ fn setting_of(code: usize, n: usize) -> Vec<u8> {
     (0..n - 1).map(mark).chain([3]).collect()
 }
 
-/// The plan by trying every setting of a sheet that passed 1 to 8.
-pub fn by_trying(job: &Job) -> Plan {
+/// The plan under some costs by trying every setting of a sheet that passed 1
+/// to 8.
+pub fn by_trying_under(costs: &impl Costs, job: &Job) -> Plan {
     let table = Table::new(job);
     let growths = |u, v| table.get(u, v).expect("an allowed setting");
     let mut best: Option<Plan> = None;
@@ -53,7 +55,7 @@ pub fn by_trying(job: &Job) -> Plan {
         if !setting::allowed(job, &marks) {
             continue;
         }
-        let time = setting::time_with(&job.platform, &marks, growths);
+        let time = setting::time_with(costs, &marks, growths);
         let better = match &best {
             None => true,
             Some(b) => time < b.time || (time == b.time && wins_tie(&marks, &b.marks)),
@@ -63,6 +65,11 @@ pub fn by_trying(job: &Job) -> Plan {
         }
     }
     best.expect("all marks 3 is allowed")
+}
+
+/// The plan by trying every setting of a sheet that passed 1 to 8.
+pub fn by_trying(job: &Job) -> Plan {
+    by_trying_under(&job.platform, job)
 }
 
 /// A part of a setting: its time, then its marked positions as bits (3; 2 or
@@ -119,13 +126,13 @@ fn keep_least(best: &mut Option<Part>, part: Part) {
 /// Q: the least parts from memory copy m by verifications alone, `mem` being
 /// M'. Q grows strictly with Q', M with M' and D with D(d), so a least setting
 /// is made of least parts, ties included.
-fn verification_row(job: &Job, table: &Table, d: usize, m: usize, mem: u128) -> Row {
-    let mut row = row_from(m, job.tasks);
-    for v in m + 1..=job.tasks {
+fn verification_row(costs: &impl Costs, table: &Table, d: usize, m: usize, mem: u128) -> Row {
+    let mut row = row_from(m, table.tasks());
+    for v in m + 1..=table.tasks() {
         let through = |u: usize| {
             let (growths, so_far): (_, Part) = (table.get(u, v)?, row[u]?);
             let before = Before { d, m, mem, q: so_far.time };
-            let time = stretch::time(&job.platform, &growths, &before);
+            let time = costs.stretch(&growths, &before);
             Some(so_far.then(Part { time, any: bit(v), ..Part::EMPTY }))
         };
         row[v] = (m..v).filter_map(through).min();
@@ -134,14 +141,14 @@ fn verification_row(job: &Job, table: &Table, d: usize, m: usize, mem: u128) -> 
 }
 
 /// M: the least parts from disk copy d to a memory copy.
-fn memory_row(job: &Job, table: &Table, d: usize) -> Row {
-    let mut row = row_from(d, job.tasks);
-    for m in d..job.tasks {
+fn memory_row(costs: &impl Costs, table: &Table, d: usize) -> Row {
+    let mut row = row_from(d, table.tasks());
+    for m in d..table.tasks() {
         let Some(so_far) = row[m] else { continue };
-        let verified = verification_row(job, table, d, m, so_far.time);
-        for v in m + 1..=job.tasks {
+        let verified = verification_row(costs, table, d, m, so_far.time);
+        for v in m + 1..=table.tasks() {
             let Some(part) = verified[v] else { continue };
-            let copy = Part { time: u128::from(job.platform.cm), mem: bit(v), ..Part::EMPTY };
+            let copy = Part { time: costs.memory_copy(), mem: bit(v), ..Part::EMPTY };
             keep_least(&mut row[v], so_far.then(part).then(copy));
         }
     }
@@ -149,24 +156,31 @@ fn memory_row(job: &Job, table: &Table, d: usize) -> Row {
 }
 
 /// D: the least parts from the start to a disk copy.
-fn disk_row(job: &Job, table: &Table) -> Row {
-    let mut row = row_from(0, job.tasks);
-    for d in 0..job.tasks {
+fn disk_row(costs: &impl Costs, table: &Table) -> Row {
+    let mut row = row_from(0, table.tasks());
+    for d in 0..table.tasks() {
         let Some(so_far) = row[d] else { continue };
-        let saved = memory_row(job, table, d);
-        for v in d + 1..=job.tasks {
+        let saved = memory_row(costs, table, d);
+        for v in d + 1..=table.tasks() {
             let Some(part) = saved[v] else { continue };
-            let copy = Part { time: u128::from(job.platform.cd), disk: bit(v), ..Part::EMPTY };
+            let copy = Part { time: costs.disk_copy(), disk: bit(v), ..Part::EMPTY };
             keep_least(&mut row[v], so_far.then(part).then(copy));
         }
     }
     row
 }
 
+/// The plan under some costs by rows, `table` having the growths of the job's
+/// stretches.
+pub fn by_rows_under(costs: &impl Costs, table: &Table) -> Plan {
+    let n = table.tasks();
+    let best = disk_row(costs, table)[n].expect("all marks 3 is allowed");
+    Plan { time: best.time, marks: best.marks(n) }
+}
+
 /// The plan by rows, `table` having the growths of the job's stretches.
 pub fn by_rows_with(job: &Job, table: &Table) -> Plan {
-    let best = disk_row(job, table)[job.tasks].expect("all marks 3 is allowed");
-    Plan { time: best.time, marks: best.marks(job.tasks) }
+    by_rows_under(&job.platform, table)
 }
 
 /// The plan by rows of a sheet that passed 1 to 8.
@@ -174,13 +188,26 @@ pub fn by_rows(job: &Job) -> Plan {
     by_rows_with(job, &Table::new(job))
 }
 
-/// The plan for a buffer of a size: refusals 1 to 8, 11 and 13.
-pub fn plan(sheet: &[u8], buffer_size: usize) -> Result<(u64, Vec<u8>), Refusal> {
-    let job = sheet::read(sheet)?;
+/// The plan under some costs for a buffer of a size: refusals 11 and 13.
+pub fn plan_under(
+    costs: &impl Costs,
+    job: &Job,
+    buffer_size: usize,
+) -> Result<(u64, Vec<u8>), Refusal> {
     if buffer_size < job.tasks {
         return Err(11);
     }
-    let best = if job.tasks <= MAX_TRIED_TASKS { by_trying(&job) } else { by_rows(&job) };
+    let best = if job.tasks <= MAX_TRIED_TASKS {
+        by_trying_under(costs, job)
+    } else {
+        by_rows_under(costs, &Table::new(job))
+    };
     let time = setting::check_time(best.time)?;
     Ok((time, best.marks))
+}
+
+/// The plan for a buffer of a size: refusals 1 to 8, 11 and 13.
+pub fn plan(sheet: &[u8], buffer_size: usize) -> Result<(u64, Vec<u8>), Refusal> {
+    let job = sheet::read(sheet)?;
+    plan_under(&job.platform, &job, buffer_size)
 }

@@ -1,10 +1,10 @@
 //! Marks, and the time of a setting by the literal equations.
 
 use crate::reference::sheet;
-use crate::reference::stretch::{self, Before, Growths};
-use crate::types::{Job, Platform, Refusal};
+use crate::reference::stretch::{self, Before, Costs, Growths};
+use crate::types::{Job, Refusal};
 
-/// The longest time that is not too slow.
+/// The longest time that is not too slow, and the largest energy.
 pub const MAX_TIME: u128 = (1 << 34) - 1;
 
 /// Times are exact below this and cut to it above. No Q, M or D of a setting
@@ -25,7 +25,7 @@ fn last(marks: &[u8], v: usize, least: u8) -> usize {
 /// D(n) of an allowed setting, cut at CEILING. `growths(u, v)` gives those of
 /// the stretch from u to v.
 pub fn time_with(
-    platform: &Platform,
+    costs: &impl Costs,
     marks: &[u8],
     growths: impl Fn(usize, usize) -> Growths,
 ) -> u128 {
@@ -44,21 +44,26 @@ pub fn time_with(
         let mem_before = if m == d { 0 } else { mem[m] };
         let q_before = if u == m { 0 } else { q[u] };
         let before = Before { d, m, mem: mem_before, q: q_before };
-        q[v] = cut(q_before + stretch::time(platform, &growths(u, v), &before));
+        q[v] = cut(q_before + costs.stretch(&growths(u, v), &before));
         if mark >= 2 {
-            mem[v] = cut(mem_before + q[v] + u128::from(platform.cm));
+            mem[v] = cut(mem_before + q[v] + costs.memory_copy());
         }
         if mark == 3 {
-            disk[v] = cut(disk[d] + mem[v] + u128::from(platform.cd));
+            disk[v] = cut(disk[d] + mem[v] + costs.disk_copy());
         }
     }
     disk[n]
 }
 
+/// D(n) of an allowed setting under some costs, cut at CEILING.
+pub fn time_under(costs: &impl Costs, job: &Job, marks: &[u8]) -> u128 {
+    let growths = |u, v| stretch::growths(job, u, v).expect("an allowed setting");
+    time_with(costs, marks, growths)
+}
+
 /// D(n) of an allowed setting, cut at CEILING.
 pub fn time(job: &Job, marks: &[u8]) -> u128 {
-    let growths = |u, v| stretch::growths(job, u, v).expect("an allowed setting");
-    time_with(&job.platform, marks, growths)
+    time_under(&job.platform, job, marks)
 }
 
 /// Whether every stretch of the marks is allowed.

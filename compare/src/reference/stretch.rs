@@ -1,10 +1,11 @@
 //! One stretch: its exponents, whether it is allowed, and S of equation (4).
+//! `Costs` is what time and energy have in common.
 
 use crate::reference::growth::{g, h, EXPONENT_LIMIT, ONE};
 use crate::types::{Job, Platform};
 
 /// p / 2^24, rounded up.
-fn up(p: u128) -> u128 {
+pub fn up(p: u128) -> u128 {
     p.div_ceil(ONE)
 }
 
@@ -23,10 +24,13 @@ pub fn allowed(platform: &Platform, weight: u128) -> bool {
 /// What equation (4) needs of one stretch: its weight and its growths.
 #[derive(Clone, Copy, Debug)]
 pub struct Growths {
-    weight: u128,
-    g_silent: u128,
-    g_both: u128,
-    h_failstop: u128,
+    pub weight: u128,
+    /// G(y_s).
+    pub g_silent: u128,
+    /// G(y_s + y_f).
+    pub g_both: u128,
+    /// H(y_f).
+    pub h_failstop: u128,
 }
 
 /// The growths of the stretch from position u to v, if it is allowed.
@@ -49,6 +53,10 @@ impl Table {
         let entry = |u: usize, v: usize| if u < v { growths(job, u, v) } else { None };
         let row = |u: usize| (0..=n).map(|v| entry(u, v)).collect();
         Table((0..=n).map(row).collect())
+    }
+
+    pub fn tasks(&self) -> usize {
+        self.0.len() - 1
     }
 
     pub fn get(&self, u: usize, v: usize) -> Option<Growths> {
@@ -82,4 +90,29 @@ pub fn time(platform: &Platform, s: &Growths, before: &Before) -> u128 {
     let third = up((s.g_both - ONE) * before.q);
     let fourth = up((s.g_silent - ONE) * rm);
     first + second + third + fourth
+}
+
+/// What the equations ask of costs, in ticks of time or in units of energy.
+pub trait Costs {
+    /// S of one stretch.
+    fn stretch(&self, s: &Growths, before: &Before) -> u128;
+    /// What M has for the copy.
+    fn memory_copy(&self) -> u128;
+    /// What D has for the copy.
+    fn disk_copy(&self) -> u128;
+}
+
+/// The costs in time.
+impl Costs for Platform {
+    fn stretch(&self, s: &Growths, before: &Before) -> u128 {
+        time(self, s, before)
+    }
+
+    fn memory_copy(&self) -> u128 {
+        u128::from(self.cm)
+    }
+
+    fn disk_copy(&self) -> u128 {
+        u128::from(self.cd)
+    }
 }

@@ -1,5 +1,6 @@
 //! `bench`: the library's plan beside a plain Rust planner of the same
-//! algorithm and a tuned one, and how many prices and steps a second.
+//! algorithm and a tuned one, its plan by energy beside that by time, and how
+//! many prices and steps a second.
 
 mod cases;
 mod plain;
@@ -11,13 +12,14 @@ use compare::random::Random;
 use compare::reference::run;
 use compare::reference::setting;
 use compare::reference::sheet;
-use compare::types::{Event, Job, Run, MAX_TASKS};
+use compare::types::{Event, Job, Powers, Run, MAX_TASKS};
 use plain::Plan;
 use std::hint::black_box;
 use timing::{median, timed};
 
 const SIZES: [usize; 4] = [8, 16, 32, 64];
 const RANDOM_SHEETS: usize = 5;
+const POWERS: Powers = Powers { computing: 2, saving: 3 };
 
 /// A time and marks, all 0 if refused.
 type Planned = (u64, [u8; MAX_TASKS]);
@@ -102,6 +104,34 @@ fn plans() {
     }
 }
 
+fn energy_plan(sheet: &[u8]) -> Planned {
+    let mut buffer = [0; MAX_TASKS];
+    let answer = library::energy(sheet, POWERS, &mut buffer);
+    assert_eq!(answer.number, 0, "a plan by energy");
+    (answer.time, buffer)
+}
+
+/// Medians of the library's plans by time and by energy, in turn.
+fn time_and_energy(sheet: &[u8], n: usize) -> (f64, f64) {
+    let (rounds, batch) = effort(n);
+    let (mut times, mut energies) = (Vec::new(), Vec::new());
+    for _ in 0..rounds {
+        times.push(timed(batch, || library_plan(black_box(sheet))));
+        energies.push(timed(batch, || energy_plan(black_box(sheet))));
+    }
+    (median(times), median(energies))
+}
+
+fn energies() {
+    let Powers { computing, saving } = POWERS;
+    println!("library's plans, Hera, powers {computing} and {saving}, medians in microseconds");
+    println!("{:<12}{:>6}{:>11}{:>11}{:>15}", "", "tasks", "by time", "by energy", "energy/time");
+    for n in SIZES {
+        let (time, energy) = time_and_energy(&cases::listed(&cases::HERA, n), n);
+        println!("{:<12}{n:>6}{time:>11.1}{energy:>11.1}{:>15.2}", "", energy / time);
+    }
+}
+
 /// Calls a second by the median of 51 rounds, library and reference in turn.
 fn pace<A, B>(name: &str, batch: u32, library: impl Fn() -> A, reference: impl Fn() -> B) {
     let (mut ours, mut theirs) = (Vec::new(), Vec::new());
@@ -150,6 +180,7 @@ fn calls() {
 fn main() {
     println!("library: {}", library::NAME);
     plans();
+    energies();
     calls();
 }
 

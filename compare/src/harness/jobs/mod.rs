@@ -1,5 +1,6 @@
 //! Random jobs, many of them at an edge.
 
+mod billed;
 mod limits;
 mod partners;
 mod ties;
@@ -7,6 +8,7 @@ mod values;
 
 use crate::random::Random;
 use crate::types::{Job, Platform};
+pub use billed::billed;
 pub use partners::{light, partner};
 use values::{any_costs, any_rates, any_weights, split, total, MAX_TICKS};
 
