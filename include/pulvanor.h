@@ -130,7 +130,8 @@ struct pulvanor_answer pulvanor_plan(const uint8_t *sheet, size_t sheet_length, 
 /* The same by energy: `computing` is the power at which computing and verifying are billed, `saving` that of
    saving and recovering, and `time` in the answer is the least energy of all allowed settings, in ticks times
    units of power. The work of a stretch, with what fail-stop errors add to it, and V cost the first power a
-   tick; C_M, C_D, R_M and R_D cost the second. The same settings are allowed as for pulvanor_plan, and by the
+   tick; C_M, C_D and recoveries (R_M, or R_D + R_M from disk, and nothing at the start) the second. The unit
+   of power is the caller's, as a tick is. The same settings are allowed as for pulvanor_plan, and by the
    powers 1 and 1 number, figure and every byte of the buffer are those of pulvanor_plan. Refusals 1 to 8, 29
    (a power is not 1 to 16, or a product above 2^30: the total weight or V with the first power, C_D, C_M, R_D
    or R_M with the second), 11 and 13 (every allowed setting takes more than 2^34 - 1 in energy), in this order.

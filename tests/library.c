@@ -73,7 +73,16 @@ static void energies(void) {
         1, 0, 0, 0, 4, 0, 0, 0, 16, 224, 147, 4, 0, 96, 234, 0, 0, 40, 35, 0, 0, 64, 13, 3, 0, 112, 17, 1, 0,
         2, 7, 0, 16, 0, 41, 161, 7, 0, 97, 174, 10, 0, 167, 187, 13, 0,
     };
+    uint8_t steep[sizeof sheet], dear[sizeof sheet];
+    size_t i;
+    for (i = 0; i < sizeof sheet; i++)
+        steep[i] = dear[i] = sheet[i];
+    steep[28] = steep[53] = steep[57] = 2; /* a silent rate of 2^25, two tasks of 2^25 */
+    steep[52] = steep[56] = 0;
+    dear[29] = dear[30] = 0; /* C_D 2^30 */
+    dear[32] = 64;
     by_energy("energy, powers 1 and 1", sheet, sizeof sheet, 1, 1, 6);
+    by_energy("energy, a buffer that just holds the marks", sheet, sizeof sheet, 1, 1, 2);
     by_energy("energy, powers 2 and 3", sheet, sizeof sheet, 2, 3, 6);
     planned("plan of four tasks", pulvanor_plan, four, sizeof four, 4);
     by_energy("energy of them, powers 3 and 5", four, sizeof four, 3, 5, 6);
@@ -82,6 +91,10 @@ static void energies(void) {
     by_energy("energy, power 17 and a short buffer", sheet, sizeof sheet, 1, 17, 1);
     by_energy("energy, power 2^32 + 1", sheet, sizeof sheet, (1ULL << 32) + 1, 1, 6);
     by_energy("energy, power 2^64 - 1", sheet, sizeof sheet, 1, UINT64_MAX, 6);
+    by_energy("energy, a product of 2^30", dear, sizeof dear, 16, 1, 6);
+    by_energy("energy, a product of 2^32", dear, sizeof dear, 1, 4, 6);
+    planned("plan in time", pulvanor_plan, steep, sizeof steep, 4);
+    by_energy("energy above 2^34 - 1", steep, sizeof steep, 5, 1, 6);
     by_energy("energy, short buffer", sheet, sizeof sheet, 2, 3, 1);
     by_energy("energy, a cut sheet and power 0", sheet, 57, 0, 0, 1);
 }

@@ -1,2 +1,2 @@
--- Laws of marks as text.
-mod Texts
+-- Laws of marks and of numbers as text.
+pub mod Texts

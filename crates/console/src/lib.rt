@@ -22,6 +22,7 @@ const NINE: u8 = b'9';
 // Digits are decimal.
 const BASE: u8 = 10;
 
+// The same, for numbers of 64 bits.
 const WORD_BASE: u64 = 10;
 
 // The greatest number of 64 bits.
@@ -113,7 +114,7 @@ fn value_of(text: &[u8]) -> u64
     n
 }
 
-// The number that a text gives.
+// The number that a text gives; an empty text is none, nor is one with a byte that is no digit.
 pub fn to_number(text: &[u8]) -> Number
     ensures { λ r. ⌜ NumberOf (now (text .entry)) r ⌝ }
 {
@@ -123,15 +124,15 @@ pub fn to_number(text: &[u8]) -> Number
             failed: true,
         };
     }
-    if is_digits(text) {
+    if !is_digits(text) {
         return Number {
-            value: value_of(text),
-            failed: false,
+            value: 0,
+            failed: true,
         };
     }
     Number {
-        value: 0,
-        failed: true,
+        value: value_of(text),
+        failed: false,
     }
 }
 

@@ -1,4 +1,5 @@
--- Request 106: the energy of a setting. It is D(n) of a chain whose work and costs are multiplied by two powers, so what is said of any chain holds for it.
+-- Request 106: the energy of a setting. It is D(n) of a chain whose work and costs are multiplied by two powers, and its S rises with Q' and M'
+-- (`energy-rises`), so what is proved of such chains holds for it.
 use Prim.Native.Nat.{ℕ, _+_, _-_, _*_, _≤_}
 use mathlib.Core.List.{List}
 use Rattle.units.specs.Unit.{unit, up}

@@ -1,4 +1,5 @@
--- The starred examples of document 01 and the team's own hold, by computing the definitions. Assumes nothing.
+-- The starred examples of document 01 and the team's own hold, by computing the definitions; and on one sheet the marks that have the least time are those of
+-- no plan by energy. Assumes nothing.
 use Prim.Native.Nat.{ℕ, _<_}
 use mathlib.Core.Path.{_≡_, refl}
 use mathlib.Core.Bool.{true}
@@ -78,7 +79,7 @@ unfolding up
     headerA platformA weightsA sheetA weightsFirst strayBefore strayBetween strayAfter strayKinds strayOverlap sheetOne sheetB dearA energyUnder timeUnder numberUnder runOfA starred allAgree
 starred-examples = refl
 
--- sheet B by the powers 3 and 5: marks 3233 are allowed and take less energy than 3333, the marks of its least time
+-- sheet B by the powers 3 and 5: marks 3233 are allowed and take less energy than 3333, which `plan` prints for it
 record Cheaper : Type 0 where
   allowed : first (marksConditions (jobOf sheetB) (3 ∷ 2 ∷ 3 ∷ 3 ∷ [])) ≡ 0
   tasks-4 : jobOf sheetB .tasks ≡ 4
@@ -99,7 +100,7 @@ unfolding up
     sheetB energyUnder
 cheaper = record { allowed = refl; tasks-4 = refl; less = lit< tt }
 
--- a time plan priced in energy is no plan by energy: no answer that keeps the promise has those marks
+-- so a program that gives these marks, with whatever energy, does not keep the promise
 pub time-plan-refused : (before after : List ℕ) (r : Answer) → PlansByEnergy (powers 3 5) sheetB before after r → r .number ≡ 0 → take 4 after ≢ 3 ∷ 3 ∷ 3 ∷ 3 ∷ []
 unfolding energyUnder
 time-plan-refused before after r plans e same =

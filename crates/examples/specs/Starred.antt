@@ -125,6 +125,7 @@ starred =
     ∷ example (numberUnder strayAfter (2 ∷ 3 ∷ [])) 28
     ∷ example (numberUnder strayKinds (2 ∷ 3 ∷ [])) 28
     ∷ example (numberUnder strayOverlap (2 ∷ 3 ∷ [])) 5
+    ∷ example (timeUnder sheetB (3 ∷ 3 ∷ 3 ∷ 3 ∷ [])) 9972471
     ∷ example (energyUnder (powers 1 1) sheetA (2 ∷ 3 ∷ [])) 726347
     ∷ example (energyUnder (powers 2 3) sheetA (2 ∷ 3 ∷ [])) 1461409
     ∷ example (energyUnder (powers 3 5) sheetB (2 ∷ 1 ∷ 3 ∷ 3 ∷ [])) 41752193
@@ -132,6 +133,7 @@ starred =
     ∷ example (energyUnder (powers 3 5) sheetB (3 ∷ 2 ∷ 3 ∷ 3 ∷ [])) 33515995
     ∷ example (energyRefusal (powers 1 1) sheetA) 0
     ∷ example (energyRefusal (powers 16 16) sheetA) 0
+    ∷ example (energyRefusal (powers 3 5) sheetB) 0
     ∷ example (energyRefusal (powers 0 1) sheetA) 29
     ∷ example (energyRefusal (powers 1 0) sheetA) 29
     ∷ example (energyRefusal (powers 17 1) sheetA) 29

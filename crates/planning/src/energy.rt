@@ -8,7 +8,6 @@ ghost use Rattle.planning.specs.Working.Ready.{ReadyForProduct};
 use crate::plan_job;
 use costs::Powers;
 use job::Job;
-use job::checks::TOTAL_LIMIT;
 use job::totals::weight_to;
 use job::totals::wide;
 use refusals::Answer;
@@ -21,6 +20,9 @@ const LEAST_POWER: u64 = 1;
 
 const MOST_POWER: u64 = 16;
 
+// The most that a product of a power may be: what a cost or the total weight may be by itself.
+const PRODUCT_LIMIT: u64 = 1 << 30;
+
 fn out_of_range(power: u64) -> bool
     ensures { λ r. ⌜ r ≡ outOfRange power ⌝ }
 {
@@ -32,7 +34,7 @@ fn passes(power: u64, amount: u64) -> bool
     requires { ⌜ ReadyForProduct power amount ⌝ }
     ensures { λ r. ⌜ r ≡ passes power amount ⌝ }
 {
-    TOTAL_LIMIT < power * amount
+    PRODUCT_LIMIT < power * amount
 }
 
 // The first power, with the total weight and V.
@@ -80,7 +82,8 @@ fn bad_powers(powers: Powers, job: Job) -> bool
     bad_saving(powers.saving, job)
 }
 
-// The plan by energy, or the first of checks 1 to 8, 29, 11 and 13 that holds.
+// The plan by energy, or the first of checks 1 to 8, 29, 11 and 13 that holds. 29 and 11 are both worked out before the first is taken, so that an edit of their
+// order is an edit of these lines alone.
 pub fn plan_energy(s: &[u8], powers: Powers, buffer: &mut [u8]) -> Answer
     ensures { λ r. ⌜ PlansByEnergy powers (now (s .entry)) (now (buffer .entry)) (now (buffer .exit)) r ⌝ }
 {

@@ -1,0 +1,2 @@
+-- What joins the powers that are read to the planner's promise.
+pub mod Read
