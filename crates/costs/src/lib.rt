@@ -103,7 +103,7 @@ impl Powers {
 }
 
 // The growth sums of a stretch of this weight, whose far end costs `v` to verify, and its work in energy. The exponents have the plain weight. The weight, by
-// itself and times the power, and the cost times the power are within the limit of costs, and with the caps of G and H each product is below 2^64.
+// itself and times the power, and the cost times the power are within the limit of costs (checks 7 and 29), and with the caps of G and H each product is below 2^64.
 pub fn energy_factors(powers: Powers, p: Platform, weight: u64, v: u64) -> Factors
     requires { ⌜ ReadyForEnergy powers weight v ⌝ }
     ensures { λ r. ⌜ r ≡ energyFactorsOf powers p weight v ⌝ }
@@ -120,7 +120,7 @@ pub fn energy_factors(powers: Powers, p: Platform, weight: u64, v: u64) -> Facto
     }
 }
 
-// The same in time.
+// The same in time. Weight and cost have passed check 7.
 pub fn stretch_factors(p: Platform, weight: u64, v: u64) -> Factors
     requires { ⌜ ReadyForFactors weight v ⌝ }
     ensures { λ r. ⌜ r ≡ factorsOf p weight v ⌝ }

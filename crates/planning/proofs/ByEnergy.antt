@@ -34,11 +34,11 @@ use Rattle.costs.specs.declared.Powers.{Powers}
 use Rattle.costs.proofs.Ranges.{plain-products}
 use Rattle.costs.proofs.Settings.{checks-setting, setting-checks}
 use Rattle.costs.proofs.Stretches.{energy-rises, plain-same}
-use Rattle.planning.specs.Promise.{Refused, Planned, AnswerSays, Plans}
+use Rattle.planning.specs.Promise.{Refused, AnswerSays, Plans}
 use Rattle.planning.specs.Energy.{mostPower, badPowers, energyRefusal, PlansByEnergy, LeastEnergy, PowersFit, SamePower}
 use Rattle.planning.proofs.Powers.{powers-fit, energy-sheet, energy-bad, energy-clear}
 use Rattle.planning.proofs.Promises.{plans-same}
-use Rattle.planning.proofs.Theorems.{checked-once, checked-refused, plan-once, chain-says, front-length}
+use Rattle.planning.proofs.Theorems.{ResultSays, checked-once, checked-result, checked-refused, plan-once, chain-says, front-length}
 
 -- 'Exponents keep the plain weights': the same settings are allowed
 pub energy-allowed : (powers : Powers) (job : Job) (n : ℕ) (g : Marks) → Allowed (energyChain powers job) n g ↔ Allowed (chainOf job) n g
@@ -130,41 +130,27 @@ module _ (powers : Powers) (s : List ℕ) where
         go (yes h) = inr (says z h .no-other)
         go (no h) = inl (p .short z (omega arith) .numbered)
 
-    -- where there is a result, the checks have passed and the buffer holds the marks
+    -- where there is a result
     module _ (e : r .number ≡ Numbers.accepted) where
-      result-clear : energyRefusal powers s ≡ 0
-      result-clear = go (eq-zero-or-pos (energyRefusal powers s))
-        where
-          go : (energyRefusal powers s ≡ 0) ⊎ (0 < energyRefusal powers s) → energyRefusal powers s ≡ 0
-          go (inl z) = z
-          go (inr h) = absurd (omega (arith, p .checked h .numbered))
-
-      result-room : n ≤ length before
-      result-room = go (decLe n (length before))
-        where
-          go : Dec (n ≤ length before) → n ≤ length before
-          go (yes h) = h
-          go (no h) = absurd (omega (arith, p .short result-clear (omega arith) .numbered))
-
-      planned : Planned chain n before after r
-      planned = says result-clear result-room .planned e
+      result : ResultSays (energyRefusal powers s) chain n before after r
+      result = checked-result (energyRefusal powers s) chain (energy-rises powers (jobOf s)) n some-task before after r p e
 
       -- its marks pass checks 9 and 10, their energy is the one given, and no marks that pass these checks take less; of equals it is the first
       pub energy-least : LeastEnergy powers s (take n after) (r .time)
       unfolding energyOf
       energy-least =
           record {
-            allowed = setting-checks (jobOf s) (take n after) (front-length chain n before result-room after r planned)
-                (energy-allowed powers (jobOf s) n (marksOf (take n after)) .0 (planned .plan .allowed));
-            exact = planned .plan .time;
-            in-limit = planned .in-time;
-            least = λ l c. planned .plan .least (marksOf l) (allowed-marks l c);
-            first-of-equals = λ l c q. planned .plan .first (marksOf l) (allowed-marks l c) q;
+            allowed = setting-checks (jobOf s) (take n after) (front-length chain n before (result .room) after r (result .planned))
+                (energy-allowed powers (jobOf s) n (marksOf (take n after)) .0 (result .planned .plan .allowed));
+            exact = result .planned .plan .time;
+            in-limit = result .planned .in-time;
+            least = λ l c. result .planned .plan .least (marksOf l) (allowed-marks l c);
+            first-of-equals = λ l c q. result .planned .plan .first (marksOf l) (allowed-marks l c) q;
           }
 
       -- and the sheet passes checks 1 to 8, so its task count is in range
       pub energy-tasks : tasks s ≤ taskLimit
-      energy-tasks = layout-tasks s (sheet-layout s (clear-sheet result-clear)) .few-tasks
+      energy-tasks = layout-tasks s (sheet-layout s (clear-sheet (result .clear))) .few-tasks
 
     -- 29 exactly where the sheet passes 1 to 8 and the powers do not fit
     pub energy-29 : (r .number ≡ Numbers.badPower) ↔ ((sheetRefusal s ≡ 0) × (PowersFit powers (jobOf s) → ⊥))

@@ -91,6 +91,19 @@ checked-once refusal c rises n some before a b r q f g =
     (λ number h is. refused-once number before a b r q (is a r f) (is b q g))
     (λ z h is. planned-once c n before h a b r q (is a r f) (is b q g))
 
+-- what a result says: no check holds, the buffer holds the marks, and it is the plan
+pub record ResultSays (refusal : ℕ) (c : Chain) (n : ℕ) (before after : List ℕ) (r : Answer) : Type 0 where
+  pub clear : refusal ≡ 0
+  pub room : n ≤ length before
+  pub planned : Planned c n before after r
+
+pub checked-result : (refusal : ℕ) (c : Chain) → Rising c → (n : ℕ) → (refusal ≡ 0 → 0 < n) → (before after : List ℕ) (r : Answer)
+    → PlansChecked refusal c n before after r → r .number ≡ Numbers.accepted → ResultSays refusal c n before after r
+checked-result refusal c rises n some before after r p e =
+    by-case refusal c rises n some before (ResultSays refusal c n before after r)
+    (λ number h is. absurd (omega (arith, is after r p .numbered)))
+    (λ z h is. record { clear = z; room = h; planned = is after r p })
+
 -- an answer with a number gives time 0 and writes no byte
 pub checked-refused : (refusal : ℕ) (c : Chain) → Rising c → (n : ℕ) → (refusal ≡ 0 → 0 < n) → (before after : List ℕ) (r : Answer)
     → PlansChecked refusal c n before after r → 0 < r .number → Refused (r .number) before after r
@@ -152,17 +165,17 @@ planned-price s before after r z h p =
     l : List ℕ
     l = take (jobOf s .tasks) after
 
+-- what a result of the plan says
+plan-result : (s before after : List ℕ) (r : Answer) → Plans s before after r → r .number ≡ 0
+    → ResultSays (sheetRefusal s) (chainOf (jobOf s)) (jobOf s .tasks) before after r
+plan-result s = checked-result (sheetRefusal s) (chainOf (jobOf s)) (S-rises (jobOf s)) (jobOf s .tasks) (some-task s)
+
 -- where the answer is a plan, the price of its marks on the same sheet is that very answer
 pub plan-prices : (s before after : List ℕ) (r : Answer) → Plans s before after r → r .number ≡ 0 → priceOf s (take (jobOf s .tasks) after) ≡ r
 plan-prices s before after r p e =
-    by-case (sheetRefusal s) (chainOf (jobOf s)) (S-rises (jobOf s)) (jobOf s .tasks) (some-task s) before (priceOf s (take (jobOf s .tasks) after) ≡ r)
-    (λ number h is. absurd (omega (arith, is after r p .numbered)))
-    (λ z h is. planned-price s before after r z h (is after r p))
+    let result = plan-result s before after r p e in
+    planned-price s before after r (result .clear) (result .room) (result .planned)
 
 -- a result is given only to a sheet that passes checks 1 to 8, so its task count is in range
 pub plan-tasks : (s before after : List ℕ) (r : Answer) → Plans s before after r → r .number ≡ 0 → tasks s ≤ taskLimit
-plan-tasks s before after r p e = go (eq-zero-or-pos (sheetRefusal s))
-  where
-    go : (sheetRefusal s ≡ 0) ⊎ (0 < sheetRefusal s) → tasks s ≤ taskLimit
-    go (inl z) = layout-tasks s (sheet-layout s z) .few-tasks
-    go (inr h) = absurd (omega (arith, p .checked h .numbered))
+plan-tasks s before after r p e = layout-tasks s (sheet-layout s (plan-result s before after r p e .clear)) .few-tasks
