@@ -62,6 +62,14 @@ past u b x y part h e = go (ℕ-discrete u b)
     go (yes i) = rw (eq-eqb u b i)
     go (no i) = rw (ne-eqb u b i) (ap part (e (omega arith)))
 
+-- and is not less where it is not less after the start
+pub past-le : (u b x y : ℕ) → b ≤ u → (0 < u → x ≤ y) → cond (eqb u b) 0 x ≤ cond (eqb u b) 0 y
+past-le u b x y h le = go (ℕ-discrete u b)
+  where
+    go : Dec (u ≡ b) → cond (eqb u b) 0 x ≤ cond (eqb u b) 0 y
+    go (yes i) = rw (eq-eqb u b i) (omega arith)
+    go (no i) = rw (ne-eqb u b i) (le (omega arith))
+
 module _ (c : Chain) (f : Marks) where
   -- v steps are enough, and more change nothing
   times-enough : (k l v : ℕ) → 0 < v → v ≤ k → v ≤ l → times k c f v ≡ times l c f v

@@ -11,4 +11,5 @@ pub mod Order
 pub mod Ties
 pub mod Agree
 pub mod Same
+pub mod Dearer
 pub mod Theorems

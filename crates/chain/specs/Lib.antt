@@ -1,4 +1,5 @@
 pub mod Chain
 pub mod Time
 pub mod Plan
+pub mod Dearer
 pub mod Working

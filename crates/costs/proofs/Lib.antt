@@ -1,4 +1,5 @@
 -- The laws of costs that the crate's own proofs and the crates above cite.
 pub mod Ranges
 pub mod Stretches
+pub mod Dearer
 pub mod Settings

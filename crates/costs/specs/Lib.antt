@@ -1,4 +1,5 @@
 pub mod Costs
 pub mod Stretch
 pub mod Energy
+pub mod Dearer
 pub mod Working

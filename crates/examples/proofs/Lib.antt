@@ -1,2 +1,3 @@
 -- The theorem over the starred examples.
 pub mod Examples
+pub mod Offers

@@ -60,8 +60,8 @@ module _ (powers : Powers) (s : List ℕ) where
       go (inl e) = e
       go (inr h) = absurd (omega (arith, energy-sheet powers s h))
 
-  some-task : energyRefusal powers s ≡ 0 → 0 < jobOf s .tasks
-  some-task z = sheet-sound s (clear-sheet z) .some-task
+  pub energy-some-task : energyRefusal powers s ≡ 0 → 0 < jobOf s .tasks
+  energy-some-task z = sheet-sound s (clear-sheet z) .some-task
 
   abbrev n : ℕ
   n = jobOf s .tasks
@@ -71,7 +71,7 @@ module _ (powers : Powers) (s : List ℕ) where
 
   -- a sheet, two powers and a lent buffer have one answer and one buffer afterwards, byte for byte
   pub energy-once : (before a b : List ℕ) (r q : Answer) → PlansByEnergy powers s before a r → PlansByEnergy powers s before b q → (r ≡ q) × (a ≡ b)
-  energy-once = checked-once (energyRefusal powers s) chain (energy-rises powers (jobOf s)) n some-task
+  energy-once = checked-once (energyRefusal powers s) chain (energy-rises powers (jobOf s)) n energy-some-task
 
   -- marks that pass checks 9 and 10 are allowed in energy
   allowed-marks : (l : List ℕ) → first (marksConditions (jobOf s) l) ≡ 0 → Allowed chain n (marksOf l)
@@ -99,10 +99,10 @@ module _ (powers : Powers) (s : List ℕ) where
   module _ (before after : List ℕ) (r : Answer) (p : PlansByEnergy powers s before after r) where
     -- whatever is refused gives 0 and writes no byte
     pub energy-refused : 0 < r .number → Refused (r .number) before after r
-    energy-refused = checked-refused (energyRefusal powers s) chain (energy-rises powers (jobOf s)) n some-task before after r p
+    energy-refused = checked-refused (energyRefusal powers s) chain (energy-rises powers (jobOf s)) n energy-some-task before after r p
 
     says : energyRefusal powers s ≡ 0 → n ≤ length before → AnswerSays chain n before after r
-    says z h = chain-says chain (energy-rises powers (jobOf s)) n (some-task z) before after r (p .plans z h)
+    says z h = chain-says chain (energy-rises powers (jobOf s)) n (energy-some-task z) before after r (p .plans z h)
 
     -- where a sheet passes checks 1 to 8, the powers fit and the buffer holds the marks
     module _ (passed : sheetRefusal s ≡ 0) (fit : PowersFit powers (jobOf s)) (room : n ≤ length before) where
@@ -120,7 +120,7 @@ module _ (powers : Powers) (s : List ℕ) where
         λ e l c. energy-says .slow .0 e (marksOf l) (allowed-marks l c),
         λ all.
             energy-says .slow .1
-            (λ g a. let some = some-task clear in rw (← (written-energy some g a)) (all (written some g a) (written-checks some g a))),
+            (λ g a. let some = energy-some-task clear in rw (← (written-energy some g a)) (all (written some g a) (written-checks some g a))),
       )
 
     by-number : energyRefusal powers s ≡ 0 → (r .number ≡ Numbers.shortBuffer) ⊎ ((r .number ≡ Numbers.tooSlow) ⊎ (r .number ≡ Numbers.accepted))
@@ -133,14 +133,14 @@ module _ (powers : Powers) (s : List ℕ) where
     -- where there is a result
     module _ (e : r .number ≡ Numbers.accepted) where
       result : ResultSays (energyRefusal powers s) chain n before after r
-      result = checked-result (energyRefusal powers s) chain (energy-rises powers (jobOf s)) n some-task before after r p e
+      result = checked-result (energyRefusal powers s) chain (energy-rises powers (jobOf s)) n energy-some-task before after r p e
 
       -- its marks pass checks 9 and 10, their energy is the one given, and no marks that pass these checks take less; of equals it is the first
       pub energy-least : LeastEnergy powers s (take n after) (r .time)
       unfolding energyOf
       energy-least =
           record {
-            allowed = setting-checks (jobOf s) (take n after) (front-length chain n before (result .room) after r (result .planned))
+            allowed = setting-checks (jobOf s) (take n after) (front-length chain n before (result .free .room) after r (result .planned))
                 (energy-allowed powers (jobOf s) n (marksOf (take n after)) .0 (result .planned .plan .allowed));
             exact = result .planned .plan .time;
             in-limit = result .planned .in-time;
@@ -150,7 +150,7 @@ module _ (powers : Powers) (s : List ℕ) where
 
       -- and the sheet passes checks 1 to 8, so its task count is in range
       pub energy-tasks : tasks s ≤ taskLimit
-      energy-tasks = layout-tasks s (sheet-layout s (clear-sheet (result .clear))) .few-tasks
+      energy-tasks = layout-tasks s (sheet-layout s (clear-sheet (result .free .clear))) .few-tasks
 
     -- 29 exactly where the sheet passes 1 to 8 and the powers do not fit
     pub energy-29 : (r .number ≡ Numbers.badPower) ↔ ((sheetRefusal s ≡ 0) × (PowersFit powers (jobOf s) → ⊥))

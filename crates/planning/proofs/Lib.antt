@@ -5,3 +5,4 @@ pub mod Powers
 pub mod Promises
 pub mod Theorems
 pub mod ByEnergy
+pub mod Dearer

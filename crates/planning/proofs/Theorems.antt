@@ -3,7 +3,7 @@
 use Prim.Native.Nat.{ℕ, suc, _≤_, _<_}
 use mathlib.Core.Path.{_≡_, refl, sym, _∙_}
 use mathlib.Core.List.{List}
-use mathlib.Core.Logic.{_⊎_, inl, inr}
+use mathlib.Core.Logic.{_⊎_, inl, inr, _≢_}
 use native.Mathlib.Decide.{decLe}
 use native.Mathlib.Nat.{eq-zero-or-pos}
 use native.Mathlib.Omega.{arith}
@@ -11,12 +11,12 @@ use lib.ListN.{length, take, drop, take-append-drop}
 use lib.Seq.{ext-getD, length-take-le}
 use Rattle.units.specs.Limits.{none}
 use Rattle.refusals.specs.Numbers
-use Rattle.refusals.specs.Answers.{accepted}
+use Rattle.refusals.specs.Answers.{refused, accepted}
 use Rattle.refusals.specs.declared.Answer.{Answer}
 use Rattle.refusals.proofs.Answers.{answered-accepted, answer-same}
 use Rattle.chain.specs.Chain.{Chain}
 use Rattle.chain.specs.Working.Search.{Rising, leastD}
-use Rattle.chain.proofs.Theorems.{plan-is-determined}
+use Rattle.chain.proofs.Theorems.{plan-is-least, plan-is-determined}
 use Rattle.sheet.specs.Layout.{tasks}
 use Rattle.sheet.specs.Reading.{jobOf, sheetRefusal}
 use Rattle.sheet.proofs.Readings.{sheet-layout, sheet-sound}
@@ -28,7 +28,7 @@ use Rattle.costs.proofs.Settings.{setting-checks}
 use Rattle.costs.proofs.Stretches.{S-rises}
 use Rattle.pricing.specs.Price.{priceOf}
 use Rattle.pricing.proofs.Prices.{slow-passes, price-time}
-use Rattle.planning.specs.Promise.{AllSlow, Refused, Planned, PlansChain, PlansChecked, AnswerSays, Plans}
+use Rattle.planning.specs.Promise.{AllSlow, Refused, Planned, PlansChain, PlansChecked, Free, AnswerSays, Plans}
 use Rattle.planning.proofs.Promises.{slow-all, slow-none}
 
 -- whether every allowed setting is too slow is decided by the search's least time
@@ -91,10 +91,9 @@ checked-once refusal c rises n some before a b r q f g =
     (λ number h is. refused-once number before a b r q (is a r f) (is b q g))
     (λ z h is. planned-once c n before h a b r q (is a r f) (is b q g))
 
--- what a result says: no check holds, the buffer holds the marks, and it is the plan
+-- what a result says: nothing stood against it, and it is the plan
 pub record ResultSays (refusal : ℕ) (c : Chain) (n : ℕ) (before after : List ℕ) (r : Answer) : Type 0 where
-  pub clear : refusal ≡ 0
-  pub room : n ≤ length before
+  pub free : Free refusal n before
   pub planned : Planned c n before after r
 
 pub checked-result : (refusal : ℕ) (c : Chain) → Rising c → (n : ℕ) → (refusal ≡ 0 → 0 < n) → (before after : List ℕ) (r : Answer)
@@ -102,7 +101,7 @@ pub checked-result : (refusal : ℕ) (c : Chain) → Rising c → (n : ℕ) → 
 checked-result refusal c rises n some before after r p e =
     by-case refusal c rises n some before (ResultSays refusal c n before after r)
     (λ number h is. absurd (omega (arith, is after r p .numbered)))
-    (λ z h is. record { clear = z; room = h; planned = is after r p })
+    (λ z h is. record { free = record { clear = z; room = h }; planned = is after r p })
 
 -- an answer with a number gives time 0 and writes no byte
 pub checked-refused : (refusal : ℕ) (c : Chain) → Rising c → (n : ℕ) → (refusal ≡ 0 → 0 < n) → (before after : List ℕ) (r : Answer)
@@ -112,8 +111,29 @@ checked-refused refusal c rises n some before after r p h =
     (λ number _ is. let f = is after r p in record { numbered = refl; no-time = f .no-time; untouched = f .untouched })
     (λ _ _ is. absurd (omega (arith, is after r p .numbered)))
 
+-- what 13 says, where no check has that number: nothing else stood against a result, and every allowed setting is too slow
+pub record SlowSays (refusal : ℕ) (c : Chain) (n : ℕ) (before : List ℕ) : Type 0 where
+  pub free : Free refusal n before
+  pub all-slow : AllSlow c n
+
+pub checked-slow : (refusal : ℕ) (c : Chain) → Rising c → (n : ℕ) → (refusal ≡ 0 → 0 < n) → (before after : List ℕ) (r : Answer)
+    → PlansChecked refusal c n before after r → refusal ≢ Numbers.tooSlow → r .number ≡ Numbers.tooSlow → SlowSays refusal c n before
+checked-slow refusal c rises n some before after r p other e = by-checks (eq-zero-or-pos refusal)
+  where
+    by-speed : refusal ≡ 0 → n ≤ length before → Dec (AllSlow c n) → SlowSays refusal c n before
+    by-speed z h (yes a) = record { free = record { clear = z; room = h }; all-slow = a }
+    by-speed z h (no a) = absurd (omega (arith, p .plans z h .planned a .numbered))
+
+    by-room : refusal ≡ 0 → Dec (n ≤ length before) → SlowSays refusal c n before
+    by-room z (yes h) = by-speed z h (slow-decided c rises n (some z))
+    by-room z (no h) = absurd (omega (arith, p .short z (omega arith) .numbered))
+
+    by-checks : (refusal ≡ 0) ⊎ (0 < refusal) → SlowSays refusal c n before
+    by-checks (inl z) = by-room z (decLe n (length before))
+    by-checks (inr h) = absurd (other (sym (p .checked h .numbered) ∙ e))
+
 -- a sheet that passes checks 1 to 8 has a task
-some-task : (s : List ℕ) → sheetRefusal s ≡ 0 → 0 < jobOf s .tasks
+pub some-task : (s : List ℕ) → sheetRefusal s ≡ 0 → 0 < jobOf s .tasks
 some-task s z = sheet-sound s z .some-task
 
 -- a sheet and a lent buffer have one answer and one buffer afterwards, byte for byte
@@ -152,6 +172,26 @@ pub plan-says : (s before after : List ℕ) (r : Answer) → Plans s before afte
 plan-says s before after r p z h =
     chain-says (chainOf (jobOf s)) (S-rises (jobOf s)) (jobOf s .tasks) (some-task s z) before after r (p .plans z h)
 
+-- the answer to a sheet of which nothing else is wrong, from the search's least time
+module _ (s before after : List ℕ) (r : Answer) (p : Plans s before after r) (free : Free (sheetRefusal s) (jobOf s .tasks) before) where
+  abbrev chain : Chain
+  chain = chainOf (jobOf s)
+
+  abbrev n : ℕ
+  n = jobOf s .tasks
+
+  pub plan-computed : leastD chain none n < none → r ≡ accepted (leastD chain none n)
+  plan-computed l =
+      let h : 0 < n = some-task s (free .clear) in
+      let q : Planned chain n before after r = p .plans (free .clear) (free .room) .planned (slow-none chain (S-rises (jobOf s)) n h l) in
+      answer-same r (accepted (leastD chain none n)) (q .numbered)
+      (plan-is-determined chain n _ _ _ _ (q .plan) (plan-is-least chain (S-rises (jobOf s)) none n h l) .0)
+
+  pub slow-computed : none ≤ leastD chain none n → r ≡ refused Numbers.tooSlow
+  slow-computed l =
+      let q = p .plans (free .clear) (free .room) .slow (slow-all chain (S-rises (jobOf s)) n (some-task s (free .clear)) l) in
+      answer-same r (refused Numbers.tooSlow) (q .numbered) (q .no-time)
+
 planned-price : (s before after : List ℕ) (r : Answer) → sheetRefusal s ≡ 0 → jobOf s .tasks ≤ length before
     → Planned (chainOf (jobOf s)) (jobOf s .tasks) before after r → priceOf s (take (jobOf s .tasks) after) ≡ r
 unfolding priceOf timeOf
@@ -174,8 +214,8 @@ plan-result s = checked-result (sheetRefusal s) (chainOf (jobOf s)) (S-rises (jo
 pub plan-prices : (s before after : List ℕ) (r : Answer) → Plans s before after r → r .number ≡ 0 → priceOf s (take (jobOf s .tasks) after) ≡ r
 plan-prices s before after r p e =
     let result = plan-result s before after r p e in
-    planned-price s before after r (result .clear) (result .room) (result .planned)
+    planned-price s before after r (result .free .clear) (result .free .room) (result .planned)
 
 -- a result is given only to a sheet that passes checks 1 to 8, so its task count is in range
 pub plan-tasks : (s before after : List ℕ) (r : Answer) → Plans s before after r → r .number ≡ 0 → tasks s ≤ taskLimit
-plan-tasks s before after r p e = layout-tasks s (sheet-layout s (plan-result s before after r p e .clear)) .few-tasks
+plan-tasks s before after r p e = layout-tasks s (sheet-layout s (plan-result s before after r p e .free .clear)) .few-tasks

@@ -57,6 +57,11 @@ pub record PlansChecked (refusal : ℕ) (c : Chain) (n : ℕ) (before after : Li
   pub short : refusal ≡ 0 → length before < n → Refused Numbers.shortBuffer before after r
   pub plans : refusal ≡ 0 → n ≤ length before → PlansChain c n before after r
 
+-- free of every refusal but 13: no check holds, and the buffer holds the marks
+pub record Free (refusal n : ℕ) (before : List ℕ) : Type 0 where
+  pub clear : refusal ≡ 0
+  pub room : n ≤ length before
+
 -- the answer to the sheet s: checks 1 to 8, then 11, then 13, else the plan
 abbrev pub Plans : (s before after : List ℕ) → Answer → Type 0
 Plans s before after r = PlansChecked (sheetRefusal s) (chainOf (jobOf s)) (jobOf s .tasks) before after r

@@ -2,3 +2,4 @@
 pub mod Prices
 pub mod Steps
 pub mod Progresses
+pub mod Dearer

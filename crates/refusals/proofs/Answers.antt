@@ -1,6 +1,6 @@
 -- The two kinds of answers. Assumes nothing.
-use Prim.Native.Nat.{ℕ, _<_}
-use mathlib.Core.Path.{_≡_}
+use Prim.Native.Nat.{ℕ, zero, suc, _<_}
+use mathlib.Core.Path.{_≡_, refl}
 use native.Mathlib.Omega.{arith}
 use borrow.Author.Tests.{ne-eqb}
 use Rattle.refusals.specs.Answers.{refused, accepted, answered}
@@ -15,6 +15,16 @@ answered-refused {number} {r} time e h = rw (← e, ne-eqb number 0 (λ z. omega
 pub answered-accepted : {r t : ℕ} (time : ℕ) → 0 ≡ r → t ≡ time → accepted t ≡ answered r time
 unfolding answered
 answered-accepted time e h = rw (← e, h)
+
+-- the number of an answer is the one it was made of, and a result's time is
+pub answered-number : (number time : ℕ) → answered number time .number ≡ number
+unfolding answered
+answered-number zero time = refl
+answered-number (suc k) time = rw (ne-eqb (suc k) 0 (λ z. omega arith))
+
+pub answered-time : (number time : ℕ) → number ≡ 0 → answered number time .time ≡ time
+unfolding answered
+answered-time number time e = rw e
 
 made-same : {n m t u : ℕ} → n ≡ m → t ≡ u → _≡_ {A = Answer} (record { number = n; time = t }) (record { number = m; time = u })
 made-same e f = rw (e, f)

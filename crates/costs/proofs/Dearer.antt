@@ -1,0 +1,112 @@
+-- A job whose costs are not less has a chain that is nowhere cheaper, in energy by any powers and so in time. Assumes nothing.
+use Prim.Native.Nat.{ℕ, _+_, _-_, _*_, _≤_}
+use mathlib.Core.Path.{_≡_, refl, sym, _∙_}
+use mathlib.Core.Bool.{cond}
+use mathlib.Core.List.{List}
+use mathlib.Core.Logic.{_⊎_, inl, inr}
+use native.Mathlib.Nat.{le-trans, mul-le-mul-left}
+use native.Mathlib.Omega.{arith}
+use lib.Dec.{eqb}
+use Rattle.units.specs.Unit.{unit, up}
+use Rattle.units.proofs.Laws.{up-mono}
+use Rattle.growth.specs.Growth.{G, H}
+use Rattle.chain.specs.Dearer.{NowhereLess}
+use Rattle.chain.specs.Time.{D}
+use Rattle.chain.proofs.Equations.{past-le}
+use Rattle.chain.proofs.Dearer.{D-dearer, nowhere-same}
+use Rattle.job.specs.Job.{between, exponent, isAllowed, stretchAllowed}
+use Rattle.job.specs.declared.Job.{Job}
+use Rattle.marks.specs.Marks.{marksOf, badStretch, badStretches, marksConditions}
+use Rattle.costs.specs.Costs.{vAt, cmAt, cdAt, rdAt, rmAt}
+use Rattle.costs.specs.Stretch.{chainOf, timeOf}
+use Rattle.costs.specs.Energy.{energyS, energyChain, plain}
+use Rattle.costs.specs.Dearer.{Cost, DiskCopy, MemoryCopy, Verification, DiskRecovery, MemoryRecovery, costOf, SameButCosts, OneRaised, Dearer}
+use Rattle.costs.specs.Working.Factors.{energyFactorsOf, energyFactorsAt}
+use Rattle.costs.specs.declared.Powers.{Powers}
+use Rattle.costs.proofs.Stretches.{S-rises, plain-same}
+
+-- one cost raised is a case of several
+pub raised-dearer : (k : Cost) (a b : Job) → OneRaised k a b → Dearer a b
+raised-dearer k a b one = record { others = one .others; costs = λ j. go j (one .fixed j) }
+  where
+    go : (j : Cost) → (j ≡ k) ⊎ (costOf j (a .platform) ≡ costOf j (b .platform)) → costOf j (a .platform) ≤ costOf j (b .platform)
+    go j (inl e) = rw e (one .raised)
+    go j (inr e) = omega (arith, e)
+
+module _ (a b : Job) (dearer : Dearer a b) where
+  v-dearer : (p : ℕ) → vAt a p ≤ vAt b p
+  unfolding vAt costOf
+  v-dearer p = dearer .costs Verification
+
+  cm-dearer : (p : ℕ) → cmAt a p ≤ cmAt b p
+  unfolding cmAt costOf
+  cm-dearer p = dearer .costs MemoryCopy
+
+  cd-dearer : (p : ℕ) → cdAt a p ≤ cdAt b p
+  unfolding cdAt costOf
+  cd-dearer p = dearer .costs DiskCopy
+
+  rd-dearer : (p : ℕ) → rdAt a p ≤ rdAt b p
+  unfolding rdAt costOf
+  rd-dearer p = past-le p 0 _ _ (omega arith) (λ _. omega (arith, dearer .costs DiskRecovery, dearer .costs MemoryRecovery))
+
+  rm-dearer : (p : ℕ) → rmAt a p ≤ rmAt b p
+  unfolding rmAt costOf
+  rm-dearer p = past-le p 0 _ _ (omega arith) (λ _. dearer .costs MemoryRecovery)
+
+  -- W, y_s and y_f of a stretch are the same
+  weight-same : (u w : ℕ) → between (a .weights) u w ≡ between (b .weights) u w
+  weight-same u w = rw (dearer .others .weights)
+
+  exponent-s-same : (u w : ℕ) → exponent (a .platform .silent) (between (a .weights) u w) ≡ exponent (b .platform .silent) (between (b .weights) u w)
+  exponent-s-same u w = rw (dearer .others .silent, weight-same u w)
+
+  exponent-f-same : (u w : ℕ) → exponent (a .platform .failstop) (between (a .weights) u w) ≡ exponent (b .platform .failstop) (between (b .weights) u w)
+  exponent-f-same u w = rw (dearer .others .failstop, weight-same u w)
+
+  module _ (p : Powers) where
+    stretch-dearer : (u w m d Q' M' : ℕ) → energyS p a u w m d Q' M' ≤ energyS p b u w m d Q' M'
+    unfolding energyS
+    stretch-dearer u w m d Q' M' =
+        let W : ℕ = between (b .weights) u w in
+        let ys : ℕ = exponent (b .platform .silent) W in
+        let yf : ℕ = exponent (b .platform .failstop) W in
+        let verify = mul-le-mul-left (p .computing) (v-dearer w) in
+        let disk = mul-le-mul-left (p .saving) (rd-dearer d) in
+        let memory = mul-le-mul-left (p .saving) (rm-dearer m) in
+        let work : p .computing * up (W * H yf) + p .computing * vAt a w ≤ p .computing * up (W * H yf) + p .computing * vAt b w = omega (arith, verify) in
+        let lost : p .saving * rdAt a d + M' ≤ p .saving * rdAt b d + M' = omega (arith, disk) in
+        rw (exponent-s-same u w, exponent-f-same u w, weight-same u w)
+        (omega (
+          arith,
+          up-mono (mul-le-mul-left (G ys) work),
+          up-mono (mul-le-mul-left (G (ys + yf) - G ys) lost),
+          up-mono (mul-le-mul-left (G ys - unit) memory),
+        ))
+
+    pub energy-dearer : (n : ℕ) → NowhereLess n (energyChain p a) (energyChain p b)
+    unfolding energyChain stretchAllowed isAllowed
+    energy-dearer n =
+        record {
+          allowed = λ u w _ _. rw (exponent-s-same u w, exponent-f-same u w);
+          stretch = λ u w m d Q' M' _ _ _ _. stretch-dearer u w m d Q' M';
+          cm = λ w _ _. mul-le-mul-left (p .saving) (cm-dearer w);
+          cd = λ w _ _. mul-le-mul-left (p .saving) (cd-dearer w);
+        }
+
+  -- in time: by the powers 1 and 1
+  pub chain-dearer : (n : ℕ) → NowhereLess n (chainOf a) (chainOf b)
+  chain-dearer n = nowhere-same n (energyChain plain a) (energyChain plain b) (chainOf a) (chainOf b) (plain-same n a) (plain-same n b) (energy-dearer plain n)
+
+  -- so every list of marks takes at least as long
+  pub time-dearer : (l : List ℕ) → timeOf a l ≤ timeOf b l
+  unfolding timeOf
+  time-dearer l = up-to (dearer .others .tasks)
+    where
+      up-to : {n k : ℕ} → n ≡ k → D (chainOf a) (marksOf l) n ≤ D (chainOf b) (marksOf l) k
+      up-to {n} e = rw (← e) (D-dearer n (chainOf a) (chainOf b) (S-rises b) (chain-dearer n) (marksOf l))
+
+  -- and passes checks 9 and 10 for both jobs or for neither
+  pub marks-same : (l : List ℕ) → marksConditions a l ≡ marksConditions b l
+  unfolding badStretches badStretch stretchAllowed isAllowed
+  marks-same l = rw (dearer .others .tasks, dearer .others .weights, dearer .others .failstop, dearer .others .silent)
