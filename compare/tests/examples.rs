@@ -199,6 +199,90 @@ fn energy_limit() {
     assert!(plan::plan(&of(383721024), 1).is_ok());
 }
 
+/// The largest cost.
+const MAX_COST: u32 = 1 << 30;
+
+/// Request 107: A with a cost raised. Its plan does not pay R_D, and leaves a
+/// memory copy that is too dear.
+#[test]
+fn dearer_plans_of_a() {
+    let of = |platform: Platform| plan::plan(&sheet_writer::sheet(&platform, &[131072; 2]), 2);
+    let a = PLATFORM_A;
+    assert_eq!(of(a), Ok((726347, vec![2, 3])));
+    assert_eq!(of(Platform { cd: 6000, ..a }), Ok((727347, vec![2, 3])));
+    assert_eq!(of(Platform { cd: MAX_COST, ..a }), Ok((1074463171, vec![2, 3])));
+    assert_eq!(of(Platform { cm: 2000, ..a }), Ok((728347, vec![2, 3])));
+    assert_eq!(of(Platform { cm: MAX_COST, ..a }), Ok((1075080996, vec![1, 3])));
+    assert_eq!(of(Platform { v: 1928, ..a }), Ok((731783, vec![2, 3])));
+    assert_eq!(of(Platform { v: MAX_COST, ..a }), Ok((5838187157, vec![2, 3])));
+    assert_eq!(of(Platform { rd: MAX_COST, ..a }), Ok((726347, vec![2, 3])));
+    assert_eq!(of(Platform { rm: 2000, ..a }), Ok((728065, vec![2, 3])));
+    assert_eq!(of(Platform { rm: MAX_COST, ..a }), Ok((1340172, vec![1, 3])));
+    let [cd, cm, v, rd, rm] = [MAX_COST; 5];
+    assert_eq!(of(Platform { cd, cm, v, rd, rm, ..a }), Ok((10083359269, vec![0, 3])));
+}
+
+/// Request 107: the price of marks that pay R_D, beside the plan that does
+/// not, and a plan by energy.
+#[test]
+fn dearer_prices_and_energies() {
+    let platform =
+        Platform { failstop: 1 << 28, silent: 1 << 29, cd: 30000, rm: 3000, ..PLATFORM_A };
+    let of = |rd: u32| sheet_writer::sheet(&Platform { rd, ..platform }, &[131072; 2]);
+    assert_eq!(price(&of(4000), &[3, 3]), Ok(424978));
+    assert_eq!(price(&of(5000), &[3, 3]), Ok(425149));
+    assert_eq!(plan::plan(&of(4000), 2), Ok((424806, vec![2, 3])));
+    assert_eq!(plan::plan(&of(5000), 2), Ok((424806, vec![2, 3])));
+    let of = |cd: u32| sheet_writer::sheet(&Platform { cd, ..PLATFORM_A }, &[131072; 2]);
+    let powers = Powers { computing: 2, saving: 3 };
+    assert_eq!(energy(&of(5000), powers, 2), Ok((1461409, vec![2, 3])));
+    assert_eq!(energy(&of(6000), powers, 2), Ok((1464409, vec![2, 3])));
+}
+
+/// Request 107: a time of 2^34 - 1, and what is dearer, whichever cost it is.
+#[test]
+fn dearer_than_the_limit() {
+    let of = |cd: u32, cm: u32, v: u32| {
+        let platform = Platform { silent: 11 << 16, cd, cm, v, ..FREE };
+        plan::plan(&sheet_writer::sheet(&platform, &[1 << 30]), 1)
+    };
+    assert_eq!(of(383721023, 0, 0), Ok(((1 << 34) - 1, vec![3])));
+    assert_eq!(of(383721024, 0, 0), Err(13));
+    assert_eq!(of(383721023, 1, 0), Err(13));
+    assert_eq!(of(383721023, 0, 1), Err(13));
+    assert_eq!(of(MAX_COST, MAX_COST, MAX_COST), Err(13));
+}
+
+/// Rates are outside request 107. Of two sheets the one with the higher silent
+/// rate has the lower least time: y_s of each task is 127 x 2^19 and then one
+/// more, and G(y_s + 1) - G(y_s), by which M' is multiplied, falls from 54 to
+/// 52 through rounding.
+#[test]
+fn a_higher_rate_with_a_lower_time() {
+    let of = |silent: u32| {
+        let platform = Platform { failstop: 1, silent, cm: MAX_COST, ..PLATFORM_A };
+        sheet_writer::sheet(&platform, &[524288; 2])
+    };
+    let times = |silent: u32| [1, 2, 3].map(|mark| price(&of(silent), &[mark, 3]));
+    let (rate, y) = (127 << 24, 127 << 19);
+    assert_eq!([0, 1].map(|more| g(y + more + 1) - g(y + more)), [54, 52]);
+    assert_eq!(times(rate), [2572332433, 2203131339, 2203132794].map(Ok));
+    assert_eq!(times(rate + 1), [2572332627, 2203131212, 2203132798].map(Ok));
+    assert_eq!(price(&of(rate), &[0, 3]), Err(10));
+    assert_eq!(plan::plan(&of(rate), 2), Ok((2203131339, vec![2, 3])));
+    assert_eq!(plan::plan(&of(rate + 1), 2), Ok((2203131212, vec![2, 3])));
+}
+
+/// Weights are outside it too: A's work as one task takes longer than as two,
+/// as long as A under 03.
+#[test]
+fn one_task_for_two() {
+    let one = sheet_writer::sheet(&PLATFORM_A, &[262144]);
+    assert_eq!(plan::plan(&one, 1), Ok((1949854, vec![3])));
+    assert_eq!(price(&sheet_a(), &[0, 3]), Ok(1949854));
+    assert_eq!(plan::plan(&sheet_a(), 2), Ok((726347, vec![2, 3])));
+}
+
 #[test]
 fn exponent_limit() {
     let platform = Platform { silent: 1 << 31, ..FREE };

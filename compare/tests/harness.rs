@@ -1,6 +1,8 @@
 //! The harness: what it makes, and that it counts what it sees.
 
+use compare::harness::changes::Changes;
 use compare::harness::check;
+use compare::harness::dearer::{self, Pair};
 use compare::harness::jobs;
 use compare::harness::tally::{Call, Tally, NUMBERS, WANTED};
 use compare::random::Random;
@@ -10,7 +12,7 @@ use compare::reference::printed::{self, MAX_PRINTED_TASKS};
 use compare::reference::setting::MAX_TIME;
 use compare::reference::sheet;
 use compare::reference::stretch::Table;
-use compare::types::Powers;
+use compare::types::{Answer, Platform, Powers};
 
 /// Two ways to one plan, on jobs made to have ties and edges.
 #[test]
@@ -97,6 +99,72 @@ fn a_difference_is_counted() {
     assert_eq!(tally.differences, 1);
 }
 
+/// Holds the answers of pairs against the law of request 107, some cost being
+/// raised in each of them or none.
+fn held(raised: bool, pairs: &[[Answer; 2]]) -> Tally {
+    let mut tally = Tally::default();
+    let powers = Powers { computing: 1, saving: 1 };
+    let pair = Pair { cheaper: Vec::new(), dearer: Vec::new(), tasks: 1, powers, raised };
+    for &answers in pairs {
+        dearer::hold(&mut tally, &pair, &"plan", answers, |dearer| &mut dearer.plans);
+    }
+    tally
+}
+
+fn result(time: u64) -> Answer {
+    Answer { number: 0, time }
+}
+
+fn refused(number: u64) -> Answer {
+    Answer { number, time: 0 }
+}
+
+#[test]
+fn a_fall_is_a_difference() {
+    let [less, more, too_slow] = [result(8), result(9), refused(13)];
+    let lawful = [[less, more], [less, less], [less, too_slow], [too_slow, too_slow]];
+    let tally = held(true, &lawful);
+    let Changes { rose, stayed, became_13, both_13, fell } = tally.dearer.plans;
+    assert_eq!([rose, stayed, became_13, both_13, fell], [1, 1, 1, 1, 0]);
+    assert_eq!(tally.differences, 0);
+    let fallen = [[more, less], [too_slow, less], [less, refused(7)], [too_slow, refused(7)]];
+    let tally = held(true, &fallen);
+    assert_eq!((tally.dearer.plans.fell, tally.differences), (4, 4));
+}
+
+#[test]
+fn without_a_raised_cost_any_change_is_a_difference() {
+    let [less, more, too_slow] = [result(8), result(9), refused(13)];
+    assert_eq!(held(false, &[[less; 2], [too_slow; 2]]).differences, 0);
+    let changed = [[less, more], [more, less], [less, too_slow], [too_slow, less]];
+    assert_eq!(held(false, &changed).differences, 4);
+}
+
+/// A dearer job has no lower cost, and the same rates and weights; it passes
+/// 1 to 8 and 29 if the first one does.
+#[test]
+fn dearer_jobs_differ_in_costs_alone() {
+    let mut random = Random::new(107);
+    let mut made = 0;
+    while made < 1000 {
+        let job = jobs::any(&mut random, 5).job;
+        let mut power = || random.between(1, MAX_POWER);
+        let powers = Powers { computing: power(), saving: power() };
+        if sheet::check_values(&job).is_err() || energy::check_powers(&job, powers).is_err() {
+            continue;
+        }
+        let dearer = jobs::dearer(&mut random, &job, powers);
+        let mut costs = jobs::costs(&job).into_iter().zip(jobs::costs(&dearer));
+        assert!(costs.all(|(before, after)| before <= after));
+        let Platform { failstop, silent, .. } = job.platform;
+        let same = Platform { failstop, silent, ..dearer.platform };
+        assert_eq!((dearer.task_weights(), dearer.platform), (job.task_weights(), same));
+        assert_eq!(sheet::check_values(&dearer), Ok(()));
+        assert_eq!(energy::check_powers(&dearer, powers), Ok(()));
+        made += 1;
+    }
+}
+
 #[test]
 fn complete_needs_every_number_and_every_edge_often() {
     let mut tally = Tally::default();
@@ -104,7 +172,7 @@ fn complete_needs_every_number_and_every_edge_often() {
         assert!(!tally.complete());
         (0..WANTED).for_each(|_| tally.count(Call::Plan, number));
     }
-    let edges: [fn(&mut Tally) -> &mut u64; 27] = [
+    let edges: [fn(&mut Tally) -> &mut u64; 48] = [
         |t| &mut t.joins.of_64,
         |t| &mut t.joins.of_65,
         |t| &mut t.joins.at_total,
@@ -132,6 +200,27 @@ fn complete_needs_every_number_and_every_edge_often() {
         |t| &mut t.energies.too_dear,
         |t| &mut t.energies.at_limit,
         |t| &mut t.energies.over_limit,
+        |t| &mut t.dearer.plans.rose,
+        |t| &mut t.dearer.plans.stayed,
+        |t| &mut t.dearer.plans.became_13,
+        |t| &mut t.dearer.plans.both_13,
+        |t| &mut t.dearer.prices.rose,
+        |t| &mut t.dearer.prices.stayed,
+        |t| &mut t.dearer.prices.became_13,
+        |t| &mut t.dearer.prices.both_13,
+        |t| &mut t.dearer.energies.rose,
+        |t| &mut t.dearer.energies.stayed,
+        |t| &mut t.dearer.energies.became_13,
+        |t| &mut t.dearer.energies.both_13,
+        |t| &mut t.dearer.alone[0],
+        |t| &mut t.dearer.alone[1],
+        |t| &mut t.dearer.alone[2],
+        |t| &mut t.dearer.alone[3],
+        |t| &mut t.dearer.alone[4],
+        |t| &mut t.dearer.several,
+        |t| &mut t.dearer.none,
+        |t| &mut t.dearer.to_limit,
+        |t| &mut t.dearer.other_order,
     ];
     for edge in edges {
         assert!(!tally.complete());

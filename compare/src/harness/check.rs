@@ -1,5 +1,6 @@
 //! Compares library and reference on one random sheet and runs of it.
 
+use crate::harness::dearer;
 use crate::harness::energies;
 use crate::harness::jobs::{self, Case};
 use crate::harness::joins;
@@ -64,6 +65,8 @@ impl Check<'_> {
             self.edge(plan::by_rows(&job).time);
         }
         self.prices(&job, case);
+        let read = Case { job, marks: case.marks.clone() };
+        dearer::one(self.random, self.tally, &self.sheet, read);
         self.runs(&job);
     }
 

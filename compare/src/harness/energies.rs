@@ -1,7 +1,7 @@
 //! Plans by energy, by library and reference, and plans by time beside them.
 
-use crate::harness::jobs;
-use crate::harness::lent::{self, Lent};
+use crate::harness::jobs::{self, MANY_TASKS};
+use crate::harness::lent::{self, filled, Filled, Lent};
 use crate::harness::powers::{self, BOTH_1};
 use crate::harness::sheets;
 use crate::harness::tally::{Call, Energies, Tally};
@@ -15,23 +15,10 @@ use crate::reference::sheet::{self, MAX_TICKS};
 use crate::reference::stretch::Table;
 use crate::types::{Answer, Job, Powers};
 
-/// The reference takes its time over more tasks than these, so that few such
-/// sheets are planned by energy.
-const MANY_TASKS: usize = 16;
-
-/// An answer with the memory that was lent for the marks.
-type Filled = (Answer, Lent);
-
 /// Whether the least energy is 2^34, just past the limit.
 fn just_past(job: &Job, powers: Powers) -> bool {
     let least = || plan::by_rows_under(&EnergyCosts::new(job, powers), &Table::new(job)).time;
     job.tasks <= MAX_TRIED_TASKS && least() == MAX_TIME + 1
-}
-
-/// Lends a copy of the memory to a call.
-fn filled(lent: &Lent, call: impl FnOnce(&mut [u8]) -> Answer) -> Filled {
-    let mut lent = lent.clone();
-    (call(lent.buffer()), lent)
 }
 
 /// Counts edges of an answer on a sheet that passed 1 to 8.

@@ -2,7 +2,7 @@
 //! the same if all their memory is.
 
 use crate::random::Random;
-use crate::types::MAX_TASKS;
+use crate::types::{Answer, MAX_TASKS};
 
 const GUARD: usize = 16;
 
@@ -15,6 +15,16 @@ pub fn room(r: &mut Random, n: usize) -> usize {
         10..=14 => n + 1 + r.index(8),
         15..=17 => MAX_TASKS.max(n),
         _ => 200,
+    }
+}
+
+/// Two rooms of unlike size that each hold n marks, one of them just so.
+pub fn two_rooms(r: &mut Random, n: usize) -> [usize; 2] {
+    let more = n + 1 + r.index(MAX_TASKS);
+    if r.chance(50) {
+        [n, more]
+    } else {
+        [more, n]
     }
 }
 
@@ -32,4 +42,13 @@ impl Lent {
         let end = self.memory.len() - GUARD;
         &mut self.memory[GUARD..end]
     }
+}
+
+/// An answer with the memory that was lent for the marks.
+pub type Filled = (Answer, Lent);
+
+/// Lends a copy of the memory to a call.
+pub fn filled(lent: &Lent, call: impl FnOnce(&mut [u8]) -> Answer) -> Filled {
+    let mut lent = lent.clone();
+    (call(lent.buffer()), lent)
 }

@@ -1,6 +1,8 @@
 //! Makes inputs, asks library and reference, and counts.
 
+pub mod changes;
 pub mod check;
+pub mod dearer;
 mod energies;
 pub mod jobs;
 mod joins;

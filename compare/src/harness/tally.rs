@@ -1,5 +1,6 @@
 //! Counts, and the report of differences.
 
+use crate::harness::changes::Changes;
 use std::fmt::Debug;
 
 /// The calls that answer with a number.
@@ -100,6 +101,28 @@ pub struct Energies {
     pub over_limit: u64,
 }
 
+/// Sheets beside dearer ones (request 107). Changes are counted where some cost
+/// is raised.
+#[derive(Default)]
+pub struct Dearer {
+    /// The plan's time.
+    pub plans: Changes,
+    /// The time of a user's own marks.
+    pub prices: Changes,
+    /// The energy of a plan by energy.
+    pub energies: Changes,
+    /// C_D, C_M, V, R_D or R_M raised alone.
+    pub alone: [u64; 5],
+    /// Several of them raised at once.
+    pub several: u64,
+    /// None raised: two sheets of the same values.
+    pub none: u64,
+    /// A cost raised to 2^30.
+    pub to_limit: u64,
+    /// The sections in the other order.
+    pub other_order: u64,
+}
+
 #[derive(Default)]
 pub struct Tally {
     pub sheets: u64,
@@ -112,6 +135,7 @@ pub struct Tally {
     pub printed: Printed,
     pub strays: Strays,
     pub energies: Energies,
+    pub dearer: Dearer,
     pub differences: u64,
     counts: [[u64; 30]; 9],
 }
@@ -143,23 +167,43 @@ impl Tally {
         library: &T,
         reference: &T,
     ) {
-        if library == reference {
-            return;
-        }
-        self.differences += 1;
-        if self.differences <= SHOWN {
-            println!("difference {} in {what}", self.differences);
-            println!("  sheet     {}", hex(sheet));
-            println!("  input     {input:?}");
+        if library != reference && self.differs(what, sheet, input) {
             println!("  library   {library:?}");
             println!("  reference {reference:?}");
         }
     }
 
+    /// That a law does not hold of the library's answers is a difference;
+    /// `sheet`, `input` and `answers` are printed then.
+    pub fn holds(
+        &mut self,
+        what: &str,
+        sheet: &[u8],
+        input: &dyn Debug,
+        answers: &dyn Debug,
+        law: bool,
+    ) {
+        if !law && self.differs(what, sheet, input) {
+            println!("  answers   {answers:?}");
+        }
+    }
+
+    /// Counts a difference, and prints where it is if few were before.
+    fn differs(&mut self, what: &str, sheet: &[u8], input: &dyn Debug) -> bool {
+        self.differences += 1;
+        let shown = self.differences <= SHOWN;
+        if shown {
+            println!("difference {} in {what}", self.differences);
+            println!("  sheet     {}", hex(sheet));
+            println!("  input     {input:?}");
+        }
+        shown
+    }
+
     /// How often each edge of the requests was seen.
-    fn edges(&self) -> [(&'static str, u64); 27] {
+    fn edges(&self) -> [(&'static str, u64); 48] {
         let (j, r, p, s) = (&self.joins, &self.refills, &self.printed, &self.strays);
-        let e = &self.energies;
+        let (e, d) = (&self.energies, &self.dearer);
         [
             ("joined, 64 tasks", j.of_64),
             ("refused, 65", j.of_65),
@@ -188,6 +232,27 @@ impl Tally {
             ("13 by energy", e.too_dear),
             ("energy 2^34 - 1", e.at_limit),
             ("energy 2^34", e.over_limit),
+            ("dearer, rose", d.plans.rose),
+            ("dearer, stayed", d.plans.stayed),
+            ("dearer, then 13", d.plans.became_13),
+            ("dearer, both 13", d.plans.both_13),
+            ("price, rose", d.prices.rose),
+            ("price, stayed", d.prices.stayed),
+            ("price, then 13", d.prices.became_13),
+            ("price, both 13", d.prices.both_13),
+            ("energy, rose", d.energies.rose),
+            ("energy, stayed", d.energies.stayed),
+            ("energy, then 13", d.energies.became_13),
+            ("energy, both 13", d.energies.both_13),
+            ("C_D raised", d.alone[0]),
+            ("C_M raised", d.alone[1]),
+            ("V raised", d.alone[2]),
+            ("R_D raised", d.alone[3]),
+            ("R_M raised", d.alone[4]),
+            ("several raised", d.several),
+            ("none raised", d.none),
+            ("raised to 2^30", d.to_limit),
+            ("in other order", d.other_order),
         ]
     }
 
@@ -195,6 +260,12 @@ impl Tally {
     pub fn complete(&self) -> bool {
         let edges = self.edges();
         NUMBERS.iter().all(|&n| self.seen(n) >= WANTED) && edges.iter().all(|e| e.1 >= WANTED)
+    }
+
+    /// Answers that fell though no cost did; each is a difference.
+    fn fallen(&self) -> u64 {
+        let Dearer { plans, prices, energies, .. } = &self.dearer;
+        plans.fell + prices.fell + energies.fell
     }
 
     fn print_counts(&self) {
@@ -225,6 +296,7 @@ impl Tally {
         println!("growth sums       {}", self.growths);
         println!("times of 2^34 - 1 {}", self.at_limit);
         println!("times of 2^34     {}", self.over_limit);
+        println!("dearer, but fell  {}", self.fallen());
         println!("differences       {}", self.differences);
         self.print_counts();
         for number in NUMBERS.iter().filter(|&&n| self.seen(n) < WANTED) {

@@ -77,7 +77,7 @@ fn heavy(r: &mut Random, powers: Powers) -> Job {
 /// A job whose least energy is 2^34 - 1 or 2^34: the silent rate is raised as
 /// far as the energy stays within that, and C_D has the rest, once V leaves
 /// one that the disk copies can share.
-fn at_energy_limit(r: &mut Random) -> (Job, Powers) {
+pub fn at_energy_limit(r: &mut Random) -> (Job, Powers) {
     let powers = powers::in_range(r);
     let mut job = heavy(r, powers);
     let target = MAX_TIME + u128::from(r.below(2));

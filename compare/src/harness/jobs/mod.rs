@@ -1,6 +1,7 @@
 //! Random jobs, many of them at an edge.
 
 mod billed;
+mod dearer;
 mod limits;
 mod partners;
 mod ties;
@@ -8,9 +9,14 @@ mod values;
 
 use crate::random::Random;
 use crate::types::{Job, Platform};
-pub use billed::billed;
+pub use billed::{at_energy_limit, billed};
+pub use dearer::{costs, dearer};
 pub use partners::{light, partner};
 use values::{any_costs, any_rates, any_weights, split, total, MAX_TICKS};
+
+/// The reference takes its time over more tasks than these, so that few such
+/// jobs are planned more than once.
+pub const MANY_TASKS: usize = 16;
 
 /// A job, and marks that belong to it if it was made for some.
 pub struct Case {
@@ -50,6 +56,17 @@ pub fn any(r: &mut Random, most: usize) -> Case {
         _ => out_of_range(r, n),
     };
     Case { job, marks: None }
+}
+
+/// A job of few tasks with a least time, or a time of its marks, at the limit
+/// or near it.
+pub fn at_time_limit(r: &mut Random) -> Case {
+    let n = r.between(1, 4) as usize;
+    if r.chance(35) {
+        return Case { job: limits::planned_at_limit(r, n), marks: None };
+    }
+    let (job, marks) = limits::priced_at_limit(r, n);
+    Case { job, marks: Some(marks) }
 }
 
 /// Costs small beside the tasks, so that plans have many marks.
