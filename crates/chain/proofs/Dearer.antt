@@ -13,8 +13,8 @@ use Rattle.chain.specs.Working.Search.{Rising}
 use Rattle.chain.proofs.Equations.{last-lt, past-le}
 use Rattle.chain.proofs.Last.{InOrder, last-in-order}
 
--- none of the three times at a position is less
-record NotLess (a b : Times) : Type 0 where
+-- the three times at a position, each at most the other's
+record AtMost (a b : Times) : Type 0 where
   q : a .q ≤ b .q
   m : a .m ≤ b .m
   d : a .d ≤ b .d
@@ -26,7 +26,7 @@ module _ (n : ℕ) (c c' : Chain) (rises : Rising c') (less : NowhereLess n c c'
       le-trans (less .stretch u v m d q t d-m m-u u-v l) (rises u v m d q q' t t' a b)
 
   module _ (f : Marks) where
-    times-dearer : (k v : ℕ) → 0 < v → v ≤ n → NotLess (times k c f v) (times k c' f v)
+    times-dearer : (k v : ℕ) → 0 < v → v ≤ n → AtMost (times k c f v) (times k c' f v)
     unfolding times
     times-dearer zero v h l = record { q = omega arith; m = omega arith; d = omega arith }
     times-dearer (suc k) v h l =

@@ -1,39 +1,92 @@
 -- A job whose costs are not less has a chain that is nowhere cheaper, in energy by any powers and so in time. Assumes nothing.
 use Prim.Native.Nat.{ℕ, _+_, _-_, _*_, _≤_}
-use mathlib.Core.Path.{_≡_, refl, sym, _∙_}
-use mathlib.Core.Bool.{cond}
+use mathlib.Core.Path.{_≡_, refl}
 use mathlib.Core.List.{List}
 use mathlib.Core.Logic.{_⊎_, inl, inr}
-use native.Mathlib.Nat.{le-trans, mul-le-mul-left}
+use native.Mathlib.Nat.{mul-le-mul-left}
 use native.Mathlib.Omega.{arith}
-use lib.Dec.{eqb}
 use Rattle.units.specs.Unit.{unit, up}
 use Rattle.units.proofs.Laws.{up-mono}
 use Rattle.growth.specs.Growth.{G, H}
 use Rattle.chain.specs.Dearer.{NowhereLess}
-use Rattle.chain.specs.Time.{D}
+use Rattle.chain.specs.Time.{Marks, D}
+use Rattle.chain.specs.Plan.{IsPlan}
 use Rattle.chain.proofs.Equations.{past-le}
-use Rattle.chain.proofs.Dearer.{D-dearer, nowhere-same}
+use Rattle.chain.proofs.Dearer.{D-dearer, least-dearer, nowhere-same}
 use Rattle.job.specs.Job.{between, exponent, isAllowed, stretchAllowed}
 use Rattle.job.specs.declared.Job.{Job}
+use Rattle.job.specs.declared.Platform.{Platform}
 use Rattle.marks.specs.Marks.{marksOf, badStretch, badStretches, marksConditions}
 use Rattle.costs.specs.Costs.{vAt, cmAt, cdAt, rdAt, rmAt}
 use Rattle.costs.specs.Stretch.{chainOf, timeOf}
 use Rattle.costs.specs.Energy.{energyS, energyChain, plain}
-use Rattle.costs.specs.Dearer.{Cost, DiskCopy, MemoryCopy, Verification, DiskRecovery, MemoryRecovery, costOf, SameButCosts, OneRaised, Dearer}
-use Rattle.costs.specs.Working.Factors.{energyFactorsOf, energyFactorsAt}
+use Rattle.costs.specs.Dearer.{Cost, DiskCopy, MemoryCopy, Verification, DiskRecovery, MemoryRecovery, costOf, SameButCosts, OneRaised, CostsRaised}
 use Rattle.costs.specs.declared.Powers.{Powers}
 use Rattle.costs.proofs.Stretches.{S-rises, plain-same}
 
 -- one cost raised is a case of several
-pub raised-dearer : (k : Cost) (a b : Job) → OneRaised k a b → Dearer a b
+pub raised-dearer : (k : Cost) (a b : Job) → OneRaised k a b → CostsRaised a b
 raised-dearer k a b one = record { others = one .others; costs = λ j. go j (one .fixed j) }
   where
     go : (j : Cost) → (j ≡ k) ⊎ (costOf j (a .platform) ≡ costOf j (b .platform)) → costOf j (a .platform) ≤ costOf j (b .platform)
     go j (inl e) = rw e (one .raised)
     go j (inr e) = omega (arith, e)
 
-module _ (a b : Job) (dearer : Dearer a b) where
+-- one for each of the five costs
+pub each : (P : Cost → Type 0) → P DiskCopy → P MemoryCopy → P Verification → P DiskRecovery → P MemoryRecovery → (k : Cost) → P k
+each P a b c d e DiskCopy = a
+each P a b c d e MemoryCopy = b
+each P a b c d e Verification = c
+each P a b c d e DiskRecovery = d
+each P a b c d e MemoryRecovery = e
+
+-- the cost j is k, or the same in both jobs
+abbrev Fixed : Cost → Job → Job → Cost → Type 0
+Fixed k a b j = (j ≡ k) ⊎ (costOf j (a .platform) ≡ costOf j (b .platform))
+
+pub raised-by : (k : Cost) {a b : Job} → SameButCosts a b → costOf k (a .platform) ≤ costOf k (b .platform)
+    → Fixed k a b DiskCopy → Fixed k a b MemoryCopy → Fixed k a b Verification → Fixed k a b DiskRecovery → Fixed k a b MemoryRecovery → OneRaised k a b
+raised-by k {a} {b} same more x y z u w = record { others = same; raised = more; fixed = each (Fixed k a b) x y z u w }
+
+-- every job can be raised, in each of its costs and by any amount
+pub record CanRaise (k : Cost) (x : ℕ) (a : Job) : Type 0 where
+  pub job : Job
+  pub one : OneRaised k a job
+  pub amount : costOf k (job .platform) ≡ costOf k (a .platform) + x
+
+-- a job with other costs
+abbrev with-costs : Job → (cd cm v rd rm : ℕ) → Job
+with-costs a cd cm v rd rm =
+    record {
+      tasks = a .tasks;
+      platform = record { failstop = a .platform .failstop; silent = a .platform .silent; cd = cd; cm = cm; v = v; rd = rd; rm = rm };
+      weights = a .weights;
+    }
+
+module _ (a : Job) (x : ℕ) where
+  raised : (k : Cost) (cd cm v rd rm : ℕ) →
+      let b : Job = with-costs a cd cm v rd rm in
+      costOf k (a .platform) ≤ costOf k (b .platform) → Fixed k a b DiskCopy → Fixed k a b MemoryCopy → Fixed k a b Verification → Fixed k a b DiskRecovery
+      → Fixed k a b MemoryRecovery → costOf k (b .platform) ≡ costOf k (a .platform) + x → CanRaise k x a
+  raised k cd cm v rd rm more p q r s t e =
+      record {
+        job = with-costs a cd cm v rd rm;
+        one = raised-by k (record { tasks = refl; weights = refl; failstop = refl; silent = refl }) more p q r s t;
+        amount = e;
+      }
+
+  pub can-raise : (k : Cost) → CanRaise k x a
+  unfolding costOf
+  can-raise =
+      let p : Platform = a .platform in
+      each (λ k. CanRaise k x a)
+      (raised DiskCopy (p .cd + x) (p .cm) (p .v) (p .rd) (p .rm) (omega arith) (inl refl) (inr refl) (inr refl) (inr refl) (inr refl) refl)
+      (raised MemoryCopy (p .cd) (p .cm + x) (p .v) (p .rd) (p .rm) (omega arith) (inr refl) (inl refl) (inr refl) (inr refl) (inr refl) refl)
+      (raised Verification (p .cd) (p .cm) (p .v + x) (p .rd) (p .rm) (omega arith) (inr refl) (inr refl) (inl refl) (inr refl) (inr refl) refl)
+      (raised DiskRecovery (p .cd) (p .cm) (p .v) (p .rd + x) (p .rm) (omega arith) (inr refl) (inr refl) (inr refl) (inl refl) (inr refl) refl)
+      (raised MemoryRecovery (p .cd) (p .cm) (p .v) (p .rd) (p .rm + x) (omega arith) (inr refl) (inr refl) (inr refl) (inr refl) (inl refl) refl)
+
+module _ (a b : Job) (dearer : CostsRaised a b) where
   v-dearer : (p : ℕ) → vAt a p ≤ vAt b p
   unfolding vAt costOf
   v-dearer p = dearer .costs Verification
@@ -98,7 +151,11 @@ module _ (a b : Job) (dearer : Dearer a b) where
   pub chain-dearer : (n : ℕ) → NowhereLess n (chainOf a) (chainOf b)
   chain-dearer n = nowhere-same n (energyChain plain a) (energyChain plain b) (chainOf a) (chainOf b) (plain-same n a) (plain-same n b) (energy-dearer plain n)
 
-  -- so every list of marks takes at least as long
+  -- so the least time is not lower, whether or not it is within the limit
+  pub least-not-lower : (n : ℕ) (f g : Marks) (t t' : ℕ) → IsPlan (chainOf a) n f t → IsPlan (chainOf b) n g t' → t ≤ t'
+  least-not-lower n = least-dearer n (chainOf a) (chainOf b) (S-rises b) (chain-dearer n)
+
+  -- every list of marks takes at least as long
   pub time-dearer : (l : List ℕ) → timeOf a l ≤ timeOf b l
   unfolding timeOf
   time-dearer l = up-to (dearer .others .tasks)

@@ -2,8 +2,8 @@
 -- outside it, by a higher rate and by a split weight, whose second time is lower. Assumes nothing.
 use Prim.Native.Nat.{ℕ, _≤_, _<_}
 use mathlib.Core.Path.{_≡_, refl, _∙_, ap}
-use mathlib.Core.List.{List}
-use mathlib.Core.Logic.{_⊎_, inl, inr}
+use mathlib.Core.List.{List, [], _∷_}
+use mathlib.Core.Logic.{inl, inr}
 use native.Mathlib.Omega.{arith}
 use lib.Dec.{lit<, lit≤}
 use lib.ListN.{length}
@@ -12,141 +12,167 @@ use Rattle.units.specs.Limits.{timeLimit, none}
 use Rattle.lists.specs.Lists.{some, tabulate}
 use Rattle.refusals.specs.Numbers
 use Rattle.refusals.specs.Refusals.{first}
-use Rattle.refusals.specs.Answers.{accepted, refused}
+use Rattle.refusals.specs.Answers.{accepted, refused, answered}
 use Rattle.refusals.specs.declared.Answer.{Answer}
 use Rattle.growth.specs.Growth.{ceilDiv, term, termSum, growthSum, growth, G, H}
-use Rattle.chain.specs.Working.Search.{least, reachTo, reach, toVerification, leastQ, toMemory, leastM, toDisk, leastD}
+use Rattle.chain.specs.Chain.{Chain}
+use Rattle.chain.specs.Time.{last, times, D}
+use Rattle.chain.specs.Working.Search.{Rising, least, reachTo, reach, toVerification, leastQ, toMemory, leastM, toDisk, leastD}
 use Rattle.job.specs.Job.{total, between, isAllowed, stretchAllowed}
 use Rattle.job.specs.Checks.{badCount, badCost, badWeight, badValue, badTask}
 use Rattle.job.specs.declared.Job.{Job}
 use Rattle.sheet.specs.Layout.{tasks, offset, size, kind, indexOf, section, badLength, badForm, badSections, badExtent, badExtents, inSection, covered, strayByte, oneOfEach, badKinds}
 use Rattle.sheet.specs.Reading.{platformOf, weightsOf, jobOf, sheetRefusal}
+use Rattle.writing.specs.Form.{fieldBytes, fields, formOne}
+use Rattle.marks.specs.Marks.{badMarks, badStretch, badStretches}
 use Rattle.costs.specs.Costs.{vAt, cmAt, cdAt, rdAt, rmAt}
-use Rattle.costs.specs.Stretch.{S, chainOf}
-use Rattle.costs.specs.Dearer.{Cost, DiskCopy, MemoryCopy, Verification, DiskRecovery, MemoryRecovery, costOf, SameButCosts, OneRaised, Dearer}
-use Rattle.planning.specs.Promise.{Free, Plans}
+use Rattle.costs.specs.Stretch.{S, chainOf, timeOf}
+use Rattle.costs.specs.Energy.{energyS, energyChain}
+use Rattle.costs.specs.Dearer.{Cost, DiskCopy, MemoryCopy, Verification, DiskRecovery, MemoryRecovery, costOf, SameButCosts, OneRaised, CostsRaised}
+use Rattle.costs.specs.declared.Powers.{Powers}
+use Rattle.costs.proofs.Stretches.{S-rises, energy-rises}
+use Rattle.costs.proofs.Dearer.{each, raised-by}
+use Rattle.pricing.specs.Price.{priceRefusal, priceOf}
+use Rattle.pricing.proofs.Dearer.{booking-holds}
+use Rattle.planning.specs.Promise.{PlansChecked, Free, Plans}
+use Rattle.planning.specs.Energy.{outOfRange, passes, badComputing, badSaving, badPowers, energyRefusal}
 use Rattle.planning.proofs.Theorems.{plan-computed, slow-computed}
-use Rattle.examples.specs.Starred.{headerA, platformA, weightsA, sheetA}
+use Rattle.planning.proofs.Dearer.{plan-raised}
+use Rattle.examples.specs.Starred.{headerA, platformA, weightsA, sheetA, powers}
 use Rattle.examples.specs.Offers.{
-  PlanGives,
-  Compared,
-  fields,
-  platformSection,
-  weightsSection,
-  headerOf,
-  withPlatformFirst,
-  withWeightsFirst,
+  BothGiven,
+  BothPlanned,
+  BothByEnergy,
+  weightsBefore,
   costsA,
-  tasksOfA,
-  raised,
+  twoTasks,
+  raisedPlatform,
   raisedA,
   raisedTime,
   allRaisedA,
-  atLimit,
+  failingA,
+  nearLimit,
   rated,
   oneTaskA,
   RateRaised,
   WeightSplit,
 }
 
--- what is computed of a sheet: it passes checks 1 to 8, has n tasks, and the search's least time is t
-record Computed (s : List ℕ) (n t : ℕ) : Type 0 where
-  clear : sheetRefusal s ≡ 0
-  count : jobOf s .tasks ≡ n
-  time : leastD (chainOf (jobOf s)) none (jobOf s .tasks) ≡ t
+-- what is computed: no check refuses, there are n tasks, and the search's least time is t, which is none from there on
+record Computed (refusal count : ℕ) (c : Chain) (n t : ℕ) : Type 0 where
+  clear : refusal ≡ 0
+  tasks : count ≡ n
+  some-task : 0 < n
+  time : leastD c none count ≡ t
 
-computed : {s : List ℕ} {n t : ℕ} → sheetRefusal s ≡ 0 → jobOf s .tasks ≡ n → leastD (chainOf (jobOf s)) none (jobOf s .tasks) ≡ t → Computed s n t
-computed a b c = record { clear = a; count = b; time = c }
+computed : {refusal count : ℕ} {c : Chain} {n t : ℕ} → refusal ≡ 0 → count ≡ n → 0 < n → leastD c none count ≡ t → Computed refusal count c n t
+computed a b h c = record { clear = a; tasks = b; some-task = h; time = c }
 
 -- so the planner gives that time, or 13 where it is none
-module _ {s : List ℕ} {n t : ℕ} (c : Computed s n t) (before after : List ℕ) (r : Answer) (room : n ≤ length before) (plans : Plans s before after r) where
-  free : Free (sheetRefusal s) (jobOf s .tasks) before
-  free = record { clear = c .clear; room = omega (arith, c .count) }
+module _ {refusal count : ℕ} {c : Chain} {n t : ℕ} (rises : Rising c) (is : Computed refusal count c n t) (before after : List ℕ) (r : Answer) (room : n ≤ length before)
+    (plans : PlansChecked refusal c count before after r) where
+  free : Free refusal count before
+  free = record { clear = is .clear; room = omega (arith, is .tasks) }
+
+  some-task : refusal ≡ 0 → 0 < count
+  some-task _ = omega (arith, is .tasks, is .some-task)
 
   gives-time : t < none → r ≡ accepted t
-  gives-time h = plan-computed s before after r plans free (omega (arith, c .time)) ∙ ap accepted (c .time)
+  gives-time h = plan-computed refusal c rises count some-task before after r plans free (omega (arith, is .time)) ∙ ap accepted (is .time)
 
   gives-13 : none ≤ t → r ≡ refused Numbers.tooSlow
-  gives-13 h = slow-computed s before after r plans free (omega (arith, c .time))
+  gives-13 h = slow-computed refusal c rises count some-task before after r plans free (omega (arith, is .time))
 
-module _ {s s' : List ℕ} {n n' t t' : ℕ} (c : Computed s n t) (c' : Computed s' n' t') where
-  compared : {a a' : Answer} → PlanGives s n a → PlanGives s' n' a' → Compared s s' n n' a a'
-  compared p p' = record { clear = c .clear; clear' = c' .clear; planned = p; planned' = p' }
+-- and so of two
+module _ {refusal refusal' count count' : ℕ} {c c' : Chain} {n n' t t' : ℕ} (rises : Rising c) (rises' : Rising c')
+    (is : Computed refusal count c n t) (is' : Computed refusal' count' c' n' t') where
+  both : {a a' : Answer} → ((before after : List ℕ) (r : Answer) → n ≤ length before → PlansChecked refusal c count before after r → r ≡ a)
+      → ((before after : List ℕ) (r : Answer) → n' ≤ length before → PlansChecked refusal' c' count' before after r → r ≡ a')
+      → BothGiven refusal refusal' (PlansChecked refusal c count) (PlansChecked refusal' c' count') n n' a a'
+  both p p' = record { clear = is .clear; clear' = is' .clear; given = p; given' = p' }
 
-  both-times : t < none → t' < none → Compared s s' n n' (accepted t) (accepted t')
-  both-times h h' = compared (λ b f r l p. gives-time c b f r l p h) (λ b f r l p. gives-time c' b f r l p h')
+  both-times : t < none → t' < none → BothGiven refusal refusal' (PlansChecked refusal c count) (PlansChecked refusal' c' count') n n' (accepted t) (accepted t')
+  both-times h h' = both (λ b a r l p. gives-time rises is b a r l p h) (λ b a r l p. gives-time rises' is' b a r l p h')
 
-  then-13 : t < none → none ≤ t' → Compared s s' n n' (accepted t) (refused Numbers.tooSlow)
-  then-13 h h' = compared (λ b f r l p. gives-time c b f r l p h) (λ b f r l p. gives-13 c' b f r l p h')
+  then-13 : t < none → none ≤ t'
+      → BothGiven refusal refusal' (PlansChecked refusal c count) (PlansChecked refusal' c' count') n n' (accepted t) (refused Numbers.tooSlow)
+  then-13 h h' = both (λ b a r l p. gives-time rises is b a r l p h) (λ b a r l p. gives-13 rises' is' b a r l p h')
 
-  both-13 : none ≤ t → none ≤ t' → Compared s s' n n' (refused Numbers.tooSlow) (refused Numbers.tooSlow)
-  both-13 h h' = compared (λ b f r l p. gives-13 c b f r l p h) (λ b f r l p. gives-13 c' b f r l p h')
+  both-13 : none ≤ t → none ≤ t'
+      → BothGiven refusal refusal' (PlansChecked refusal c count) (PlansChecked refusal' c' count') n n' (refused Numbers.tooSlow) (refused Numbers.tooSlow)
+  both-13 h h' = both (λ b a r l p. gives-13 rises is b a r l p h) (λ b a r l p. gives-13 rises' is' b a r l p h')
 
--- one for each of the five costs
-each : (P : Cost → Type 0) → P DiskCopy → P MemoryCopy → P Verification → P DiskRecovery → P MemoryRecovery → (k : Cost) → P k
-each P a b c d e DiskCopy = a
-each P a b c d e MemoryCopy = b
-each P a b c d e Verification = c
-each P a b c d e DiskRecovery = d
-each P a b c d e MemoryRecovery = e
+-- by time, and by energy
+abbrev Timed : (s : List ℕ) (n t : ℕ) → Type 0
+Timed s n t = Computed (sheetRefusal s) (jobOf s .tasks) (chainOf (jobOf s)) n t
+
+abbrev Billed : Powers → (s : List ℕ) (n t : ℕ) → Type 0
+Billed p s n t = Computed (energyRefusal p s) (jobOf s .tasks) (energyChain p (jobOf s)) n t
 
 same-but-costs : {a b : Job} → a .tasks ≡ b .tasks → a .weights ≡ b .weights → a .platform .failstop ≡ b .platform .failstop
     → a .platform .silent ≡ b .platform .silent → SameButCosts a b
 same-but-costs n w f s = record { tasks = n; weights = w; failstop = f; silent = s }
 
--- the cost j is k, or the same in both
-abbrev Fixed : Cost → Job → Job → Cost → Type 0
-Fixed k a b j = (j ≡ k) ⊎ (costOf j (a .platform) ≡ costOf j (b .platform))
-
-raised-by : (k : Cost) {a b : Job} → SameButCosts a b → costOf k (a .platform) ≤ costOf k (b .platform)
-    → Fixed k a b DiskCopy → Fixed k a b MemoryCopy → Fixed k a b Verification → Fixed k a b DiskRecovery → Fixed k a b MemoryRecovery → OneRaised k a b
-raised-by k {a} {b} same more x y z u w = record { others = same; raised = more; fixed = each (Fixed k a b) x y z u w }
-
 -- all that is computed
 record Facts : Type 0 where
-  A : Computed sheetA 2 726347
-  values-A : withPlatformFirst (costsA 5000 1000 928 4000 1000) tasksOfA ≡ sheetA
-  one : (k : Cost) → Computed (raisedA k) 2 (raisedTime k)
+  A : Timed sheetA 2 726347
+  values-A : formOne (costsA 5000 1000 928 4000 1000) twoTasks ≡ sheetA
+  one : (k : Cost) → Timed (raisedA k) 2 (raisedTime k)
   one-below : (k : Cost) → raisedTime k < none
   one-raised : (k : Cost) → OneRaised k (jobOf sheetA) (jobOf (raisedA k))
-  all-raised : Dearer (jobOf sheetA) (jobOf allRaisedA)
-  all : Computed allRaisedA 2 730255
-  limit-raised : OneRaised DiskCopy (jobOf (atLimit 0)) (jobOf (atLimit 1))
-  past-raised : OneRaised DiskCopy (jobOf (atLimit 1)) (jobOf (atLimit 2))
+  all : Timed allRaisedA 2 730255
+  all-raised : CostsRaised (jobOf sheetA) (jobOf allRaisedA)
+  failing : Timed (failingA 4000) 2 779611
+  failing-dearer : Timed (failingA 9000) 2 781421
+  failing-raised : OneRaised DiskRecovery (jobOf (failingA 4000)) (jobOf (failingA 9000))
+  limit : Timed (nearLimit 0) 1 timeLimit
+  past : Timed (nearLimit 1) 1 none
+  further : Timed (nearLimit 2) 1 none
+  limit-raised : OneRaised DiskCopy (jobOf (nearLimit 0)) (jobOf (nearLimit 1))
+  past-raised : OneRaised DiskCopy (jobOf (nearLimit 1)) (jobOf (nearLimit 2))
+  energy : Billed (powers 3 5) sheetA 2 2196472
+  energy-dearer : Billed (powers 3 5) (raisedA DiskCopy) 2 2201472
+  price : priceOf sheetA (3 ∷ 3 ∷ []) ≡ accepted 731347
+  price-dearer : priceOf (raisedA DiskCopy) (3 ∷ 3 ∷ []) ≡ accepted 733347
+  rate : Timed (rated 0) 2 2203131339
+  higher-rate : Timed (rated 1) 2 2203131212
   rate-raised : RateRaised (jobOf (rated 0)) (jobOf (rated 1))
+  one-task : Timed oneTaskA 1 1949854
   weight-split : WeightSplit (jobOf oneTaskA) (jobOf sheetA)
-  limit : Computed (atLimit 0) 1 timeLimit
-  past : Computed (atLimit 1) 1 none
-  further-past : Computed (atLimit 2) 1 none
-  rate : Computed (rated 0) 2 2203131339
-  higher-rate : Computed (rated 1) 2 2203131212
-  one-task : Computed oneTaskA 1 1949854
 
 facts : Facts
 unfolding up
     some tabulate
     first
+    answered
     ceilDiv term termSum growthSum growth G H
+    last times D
     least reachTo reach toVerification leastQ toMemory leastM toDisk leastD
     total between isAllowed stretchAllowed
     badCount badCost badWeight badValue badTask
     tasks offset size kind indexOf section badLength badForm badSections badExtent badExtents inSection covered strayByte oneOfEach badKinds
     platformOf weightsOf jobOf sheetRefusal
+    fieldBytes fields formOne
+    badMarks badStretch badStretches
     vAt cmAt cdAt rdAt rmAt
-    costOf S chainOf
+    S chainOf timeOf
+    energyS energyChain
+    costOf
+    priceRefusal priceOf
+    outOfRange passes badComputing badSaving badPowers energyRefusal
     headerA platformA weightsA sheetA
-    fields platformSection weightsSection headerOf withPlatformFirst withWeightsFirst costsA tasksOfA raised raisedA raisedTime allRaisedA atLimit rated oneTaskA
+    weightsBefore costsA twoTasks raisedPlatform raisedA raisedTime allRaisedA failingA nearLimit rated oneTaskA
 facts =
     record {
-      A = computed refl refl refl;
+      A = computed refl refl (lit< tt) refl;
       values-A = refl;
       one =
-          each (λ k. Computed (raisedA k) 2 (raisedTime k))
-          (computed refl refl refl)
-          (computed refl refl refl)
-          (computed refl refl refl)
-          (computed refl refl refl)
-          (computed refl refl refl);
+          each (λ k. Timed (raisedA k) 2 (raisedTime k))
+          (computed refl refl (lit< tt) refl)
+          (computed refl refl (lit< tt) refl)
+          (computed refl refl (lit< tt) refl)
+          (computed refl refl (lit< tt) refl)
+          (computed refl refl (lit< tt) refl);
       one-below = each (λ k. raisedTime k < none) (lit< tt) (lit< tt) (lit< tt) (lit< tt) (lit< tt);
       one-raised =
           each (λ k. OneRaised k (jobOf sheetA) (jobOf (raisedA k)))
@@ -155,13 +181,26 @@ facts =
           (raised-by Verification (same-but-costs refl refl refl refl) (lit≤ tt) (inr refl) (inr refl) (inl refl) (inr refl) (inr refl))
           (raised-by DiskRecovery (same-but-costs refl refl refl refl) (lit≤ tt) (inr refl) (inr refl) (inr refl) (inl refl) (inr refl))
           (raised-by MemoryRecovery (same-but-costs refl refl refl refl) (lit≤ tt) (inr refl) (inr refl) (inr refl) (inr refl) (inl refl));
+      all = computed refl refl (lit< tt) refl;
       all-raised =
           record {
             others = same-but-costs refl refl refl refl;
             costs = each (λ k. costOf k (jobOf sheetA .platform) ≤ costOf k (jobOf allRaisedA .platform)) (lit≤ tt) (lit≤ tt) (lit≤ tt) (lit≤ tt) (lit≤ tt);
           };
+      failing = computed refl refl (lit< tt) refl;
+      failing-dearer = computed refl refl (lit< tt) refl;
+      failing-raised = raised-by DiskRecovery (same-but-costs refl refl refl refl) (lit≤ tt) (inr refl) (inr refl) (inr refl) (inl refl) (inr refl);
+      limit = computed refl refl (lit< tt) refl;
+      past = computed refl refl (lit< tt) refl;
+      further = computed refl refl (lit< tt) refl;
       limit-raised = raised-by DiskCopy (same-but-costs refl refl refl refl) (lit≤ tt) (inl refl) (inr refl) (inr refl) (inr refl) (inr refl);
       past-raised = raised-by DiskCopy (same-but-costs refl refl refl refl) (lit≤ tt) (inl refl) (inr refl) (inr refl) (inr refl) (inr refl);
+      energy = computed refl refl (lit< tt) refl;
+      energy-dearer = computed refl refl (lit< tt) refl;
+      price = refl;
+      price-dearer = refl;
+      rate = computed refl refl (lit< tt) refl;
+      higher-rate = computed refl refl (lit< tt) refl;
       rate-raised =
           record {
             tasks = refl;
@@ -170,40 +209,58 @@ facts =
             silent = lit< tt;
             costs = each (λ k. costOf k (jobOf (rated 0) .platform) ≡ costOf k (jobOf (rated 1) .platform)) refl refl refl refl refl;
           };
-      weight-split = record { tasks = lit< tt; weight = refl; platform = refl };
-      all = computed refl refl refl;
-      limit = computed refl refl refl;
-      past = computed refl refl refl;
-      further-past = computed refl refl refl;
-      rate = computed refl refl refl;
-      higher-rate = computed refl refl refl;
-      one-task = computed refl refl refl;
+      one-task = computed refl refl (lit< tt) refl;
+      weight-split = record { one-task = refl; two-tasks = refl; weight = refl; platform = refl };
     }
 
 -- A's sheet by its values
-pub A-by-values : withPlatformFirst (costsA 5000 1000 928 4000 1000) tasksOfA ≡ sheetA
+pub A-by-values : formOne (costsA 5000 1000 928 4000 1000) twoTasks ≡ sheetA
 A-by-values = facts .values-A
 
--- A and A with one cost raised, in the other order of its sections, meet what is asked; both get results
-pub one-compared : (k : Cost) → OneRaised k (jobOf sheetA) (jobOf (raisedA k)) × Compared sheetA (raisedA k) 2 2 (accepted 726347) (accepted (raisedTime k))
-one-compared k = (facts .one-raised k, both-times (facts .A) (facts .one k) (lit< tt) (facts .one-below k))
+-- A and A with one cost raised, in the other order of its sections: both get results
+pub one-compared : (k : Cost) → OneRaised k (jobOf sheetA) (jobOf (raisedA k)) × BothPlanned sheetA (raisedA k) 2 2 (accepted 726347) (accepted (raisedTime k))
+one-compared k = (facts .one-raised k, both-times (S-rises (jobOf sheetA)) (S-rises (jobOf (raisedA k))) (facts .A) (facts .one k) (lit< tt) (facts .one-below k))
+
+-- so the theorem speaks of them: hours booked from the dearer plan, with whatever buffer, are enough for A's with another
+pub one-booking : (k : Cost) (before after before' after' : List ℕ) (r r' : Answer) → 2 ≤ length before → 2 ≤ length before'
+    → Plans sheetA before after r → Plans (raisedA k) before' after' r' → r .time ≤ r' .time
+one-booking k before after before' after' r r' room room' plans plans' =
+    let both = one-compared k .1 in
+    let raised = one-compared k .0 in
+    let number : r' .number ≡ Numbers.accepted = ap (λ q. q .number) (both .given' before' after' r' room' plans') in
+    booking-holds (plan-raised k sheetA (raisedA k) raised before after before' after' r r' plans plans')
+    (record { clear = both .clear; room = omega (arith, facts .A .tasks) }) number .1
 
 -- with all five raised
-pub all-compared : Dearer (jobOf sheetA) (jobOf allRaisedA) × Compared sheetA allRaisedA 2 2 (accepted 726347) (accepted 730255)
-all-compared = (facts .all-raised, both-times (facts .A) (facts .all) (lit< tt) (lit< tt))
+pub all-compared : CostsRaised (jobOf sheetA) (jobOf allRaisedA) × BothPlanned sheetA allRaisedA 2 2 (accepted 726347) (accepted 730255)
+all-compared = (facts .all-raised, both-times (S-rises (jobOf sheetA)) (S-rises (jobOf allRaisedA)) (facts .A) (facts .all) (lit< tt) (lit< tt))
+
+-- R_D where the plan recovers from disk
+pub recovery-compared : OneRaised DiskRecovery (jobOf (failingA 4000)) (jobOf (failingA 9000))
+    × BothPlanned (failingA 4000) (failingA 9000) 2 2 (accepted 779611) (accepted 781421)
+recovery-compared = (facts .failing-raised, both-times (S-rises (jobOf (failingA 4000))) (S-rises (jobOf (failingA 9000))) (facts .failing) (facts .failing-dearer) (lit< tt) (lit< tt))
 
 -- one tick more on the disk copy, and a result at the limit becomes 13; another, and 13 stays
-pub limit-compared : OneRaised DiskCopy (jobOf (atLimit 0)) (jobOf (atLimit 1))
-    × Compared (atLimit 0) (atLimit 1) 1 1 (accepted timeLimit) (refused Numbers.tooSlow)
-limit-compared = (facts .limit-raised, then-13 (facts .limit) (facts .past) (lit< tt) (lit≤ tt))
+pub limit-compared : OneRaised DiskCopy (jobOf (nearLimit 0)) (jobOf (nearLimit 1))
+    × BothPlanned (nearLimit 0) (nearLimit 1) 1 1 (accepted timeLimit) (refused Numbers.tooSlow)
+limit-compared = (facts .limit-raised, then-13 (S-rises (jobOf (nearLimit 0))) (S-rises (jobOf (nearLimit 1))) (facts .limit) (facts .past) (lit< tt) (lit≤ tt))
 
-pub past-compared : OneRaised DiskCopy (jobOf (atLimit 1)) (jobOf (atLimit 2))
-    × Compared (atLimit 1) (atLimit 2) 1 1 (refused Numbers.tooSlow) (refused Numbers.tooSlow)
-past-compared = (facts .past-raised, both-13 (facts .past) (facts .further-past) (lit≤ tt) (lit≤ tt))
+pub past-compared : OneRaised DiskCopy (jobOf (nearLimit 1)) (jobOf (nearLimit 2))
+    × BothPlanned (nearLimit 1) (nearLimit 2) 1 1 (refused Numbers.tooSlow) (refused Numbers.tooSlow)
+past-compared = (facts .past-raised, both-13 (S-rises (jobOf (nearLimit 1))) (S-rises (jobOf (nearLimit 2))) (facts .past) (facts .further) (lit≤ tt) (lit≤ tt))
 
--- outside it: a higher rate, and a lower time; a weight split in two, and a lower time
-pub rate-compared : RateRaised (jobOf (rated 0)) (jobOf (rated 1)) × Compared (rated 0) (rated 1) 2 2 (accepted 2203131339) (accepted 2203131212)
-rate-compared = (facts .rate-raised, both-times (facts .rate) (facts .higher-rate) (lit< tt) (lit< tt))
+-- by energy, and the price of marks 33
+pub energy-compared : BothByEnergy (powers 3 5) sheetA (raisedA DiskCopy) 2 2 (accepted 2196472) (accepted 2201472)
+energy-compared =
+    both-times (energy-rises (powers 3 5) (jobOf sheetA)) (energy-rises (powers 3 5) (jobOf (raisedA DiskCopy))) (facts .energy) (facts .energy-dearer)
+    (lit< tt) (lit< tt)
 
-pub split-compared : WeightSplit (jobOf oneTaskA) (jobOf sheetA) × Compared oneTaskA sheetA 1 2 (accepted 1949854) (accepted 726347)
-split-compared = (facts .weight-split, both-times (facts .one-task) (facts .A) (lit< tt) (lit< tt))
+pub price-compared : (priceOf sheetA (3 ∷ 3 ∷ []) ≡ accepted 731347) × (priceOf (raisedA DiskCopy) (3 ∷ 3 ∷ []) ≡ accepted 733347)
+price-compared = (facts .price, facts .price-dearer)
+
+-- outside it: a higher rate, and a lower time; one task's weight in two, and a lower time
+pub rate-compared : RateRaised (jobOf (rated 0)) (jobOf (rated 1)) × BothPlanned (rated 0) (rated 1) 2 2 (accepted 2203131339) (accepted 2203131212)
+rate-compared = (facts .rate-raised, both-times (S-rises (jobOf (rated 0))) (S-rises (jobOf (rated 1))) (facts .rate) (facts .higher-rate) (lit< tt) (lit< tt))
+
+pub split-compared : WeightSplit (jobOf oneTaskA) (jobOf sheetA) × BothPlanned oneTaskA sheetA 1 2 (accepted 1949854) (accepted 726347)
+split-compared = (facts .weight-split, both-times (S-rises (jobOf oneTaskA)) (S-rises (jobOf sheetA)) (facts .one-task) (facts .A) (lit< tt) (lit< tt))

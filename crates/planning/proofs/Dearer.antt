@@ -16,12 +16,11 @@ use Rattle.chain.proofs.Dearer.{bound-dearer, least-dearer}
 use Rattle.sheet.specs.Reading.{jobOf, sheetConditions, sheetRefusal}
 use Rattle.costs.specs.Stretch.{chainOf}
 use Rattle.costs.specs.Energy.{energyChain}
-use Rattle.costs.specs.Dearer.{Cost, OneRaised, Dearer, NotSooner}
+use Rattle.costs.specs.Dearer.{Cost, OneRaised, CostsRaised}
 use Rattle.costs.specs.declared.Powers.{Powers}
 use Rattle.costs.proofs.Stretches.{S-rises, energy-rises}
 use Rattle.costs.proofs.Dearer.{raised-dearer, chain-dearer, energy-dearer}
-use Rattle.pricing.specs.Price.{priceOf}
-use Rattle.pricing.proofs.Dearer.{price-not-sooner}
+use Rattle.pricing.specs.Dearer.{NotSooner}
 use Rattle.planning.specs.Promise.{AllSlow, PlansChecked, Free, Plans}
 use Rattle.planning.specs.Energy.{energyConditions, energyRefusal, PlansByEnergy}
 use Rattle.planning.proofs.Theorems.{ResultSays, SlowSays, checked-result, checked-slow, some-task}
@@ -63,7 +62,7 @@ module _ (n : ℕ) (c c' : Chain) (rises : Rising c) (rises' : Rising c') (less 
   checked-not-sooner e = rw (← e) not-sooner
 
 -- two sheets, the second dearer in any of the five costs, and two buffers
-module _ (s s' : List ℕ) (dearer : Dearer (jobOf s) (jobOf s')) (before after before' after' : List ℕ) (r r' : Answer) where
+module _ (s s' : List ℕ) (dearer : CostsRaised (jobOf s) (jobOf s')) (before after before' after' : List ℕ) (r r' : Answer) where
   abbrev n : ℕ
   n = jobOf s .tasks
 
@@ -91,7 +90,7 @@ module _ (s s' : List ℕ) (dearer : Dearer (jobOf s) (jobOf s')) (before after 
 
 -- 'raising any of the five costs, other fields fixed'
 module _ (cost : Cost) (s s' : List ℕ) (raised : OneRaised cost (jobOf s) (jobOf s')) where
-  dearer : Dearer (jobOf s) (jobOf s')
+  dearer : CostsRaised (jobOf s) (jobOf s')
   dearer = raised-dearer cost (jobOf s) (jobOf s') raised
 
   pub plan-raised : (before after before' after' : List ℕ) (r r' : Answer) → Plans s before after r → Plans s' before' after' r'
@@ -102,6 +101,3 @@ module _ (cost : Cost) (s s' : List ℕ) (raised : OneRaised cost (jobOf s) (job
       → PlansByEnergy powers s' before' after' r'
       → NotSooner (Free (energyRefusal powers s) (jobOf s .tasks) before) (Free (energyRefusal powers s') (jobOf s' .tasks) before') r r'
   energy-raised = energy-not-sooner s s' dearer
-
-  pub price-raised : (l : List ℕ) → NotSooner (sheetRefusal s ≡ 0) (sheetRefusal s' ≡ 0) (priceOf s l) (priceOf s' l)
-  price-raised l = price-not-sooner s s' l dearer

@@ -39,21 +39,34 @@ slow-decided c rises n h = go (decLe none (leastD c none n))
     go (yes l) = yes (slow-all c rises n h l)
     go (no l) = no (slow-none c rises n h (omega arith))
 
+-- what 13 says, where no check has that number: nothing else stood against a result, and every allowed setting is too slow
+pub record SlowSays (refusal : ℕ) (c : Chain) (n : ℕ) (before : List ℕ) : Type 0 where
+  pub free : Free refusal n before
+  pub all-slow : AllSlow c n
+
+-- what a refusal comes from: its number is that of the checks, 11 or 13
+data Cause (refusal : ℕ) (c : Chain) (n : ℕ) (before : List ℕ) (number : ℕ) : Type 0 where
+  of-checks : number ≡ refusal → Cause refusal c n before number
+  of-buffer : number ≡ Numbers.shortBuffer → Cause refusal c n before number
+  of-time : SlowSays refusal c n before → Cause refusal c n before number
+
 -- checks, a chain and a buffer alone decide which case of the promise it is: one refusal, or the plan
 module _ (refusal : ℕ) (c : Chain) (rises : Rising c) (n : ℕ) (some : refusal ≡ 0 → 0 < n) (before : List ℕ) (P : Type 0)
-    (refused : (number : ℕ) → 0 < number → ((after : List ℕ) (r : Answer) → PlansChecked refusal c n before after r → Refused number before after r) → P)
-    (planned : refusal ≡ 0 → n ≤ length before → ((after : List ℕ) (r : Answer) → PlansChecked refusal c n before after r → Planned c n before after r) → P) where
-  by-speed : refusal ≡ 0 → n ≤ length before → Dec (AllSlow c n) → P
-  by-speed z h (yes a) = refused Numbers.tooSlow (omega arith) (λ after r p. p .plans z h .slow a)
-  by-speed z h (no a) = planned z h (λ after r p. p .plans z h .planned a)
+    (refused : (number : ℕ) → 0 < number → Cause refusal c n before number
+    → ((after : List ℕ) (r : Answer) → PlansChecked refusal c n before after r → Refused number before after r) → P)
+    (planned : Free refusal n before → ((after : List ℕ) (r : Answer) → PlansChecked refusal c n before after r → Planned c n before after r) → P) where
+  by-speed : Free refusal n before → Dec (AllSlow c n) → P
+  by-speed free (yes a) =
+      refused Numbers.tooSlow (omega arith) (of-time (record { free = free; all-slow = a })) (λ after r p. p .plans (free .clear) (free .room) .slow a)
+  by-speed free (no a) = planned free (λ after r p. p .plans (free .clear) (free .room) .planned a)
 
   by-room : refusal ≡ 0 → Dec (n ≤ length before) → P
-  by-room z (yes h) = by-speed z h (slow-decided c rises n (some z))
-  by-room z (no h) = refused Numbers.shortBuffer (omega arith) (λ after r p. p .short z (omega arith))
+  by-room z (yes h) = by-speed (record { clear = z; room = h }) (slow-decided c rises n (some z))
+  by-room z (no h) = refused Numbers.shortBuffer (omega arith) (of-buffer refl) (λ after r p. p .short z (omega arith))
 
   by-checks : (refusal ≡ 0) ⊎ (0 < refusal) → P
   by-checks (inl z) = by-room z (decLe n (length before))
-  by-checks (inr h) = refused refusal h (λ after r p. p .checked h)
+  by-checks (inr h) = refused refusal h (of-checks refl) (λ after r p. p .checked h)
 
   by-case : P
   by-case = by-checks (eq-zero-or-pos refusal)
@@ -88,8 +101,8 @@ pub checked-once : (refusal : ℕ) (c : Chain) → Rising c → (n : ℕ) → (r
     → PlansChecked refusal c n before a r → PlansChecked refusal c n before b q → (r ≡ q) × (a ≡ b)
 checked-once refusal c rises n some before a b r q f g =
     by-case refusal c rises n some before ((r ≡ q) × (a ≡ b))
-    (λ number h is. refused-once number before a b r q (is a r f) (is b q g))
-    (λ z h is. planned-once c n before h a b r q (is a r f) (is b q g))
+    (λ number _ _ is. refused-once number before a b r q (is a r f) (is b q g))
+    (λ free is. planned-once c n before (free .room) a b r q (is a r f) (is b q g))
 
 -- what a result says: nothing stood against it, and it is the plan
 pub record ResultSays (refusal : ℕ) (c : Chain) (n : ℕ) (before after : List ℕ) (r : Answer) : Type 0 where
@@ -100,37 +113,43 @@ pub checked-result : (refusal : ℕ) (c : Chain) → Rising c → (n : ℕ) → 
     → PlansChecked refusal c n before after r → r .number ≡ Numbers.accepted → ResultSays refusal c n before after r
 checked-result refusal c rises n some before after r p e =
     by-case refusal c rises n some before (ResultSays refusal c n before after r)
-    (λ number h is. absurd (omega (arith, is after r p .numbered)))
-    (λ z h is. record { free = record { clear = z; room = h }; planned = is after r p })
+    (λ number h _ is. absurd (omega (arith, is after r p .numbered)))
+    (λ free is. record { free = free; planned = is after r p })
 
 -- an answer with a number gives time 0 and writes no byte
 pub checked-refused : (refusal : ℕ) (c : Chain) → Rising c → (n : ℕ) → (refusal ≡ 0 → 0 < n) → (before after : List ℕ) (r : Answer)
     → PlansChecked refusal c n before after r → 0 < r .number → Refused (r .number) before after r
 checked-refused refusal c rises n some before after r p h =
     by-case refusal c rises n some before (Refused (r .number) before after r)
-    (λ number _ is. let f = is after r p in record { numbered = refl; no-time = f .no-time; untouched = f .untouched })
-    (λ _ _ is. absurd (omega (arith, is after r p .numbered)))
+    (λ number _ _ is. let f = is after r p in record { numbered = refl; no-time = f .no-time; untouched = f .untouched })
+    (λ _ is. absurd (omega (arith, is after r p .numbered)))
 
--- what 13 says, where no check has that number: nothing else stood against a result, and every allowed setting is too slow
-pub record SlowSays (refusal : ℕ) (c : Chain) (n : ℕ) (before : List ℕ) : Type 0 where
-  pub free : Free refusal n before
-  pub all-slow : AllSlow c n
-
+-- 13, where no check has that number
 pub checked-slow : (refusal : ℕ) (c : Chain) → Rising c → (n : ℕ) → (refusal ≡ 0 → 0 < n) → (before after : List ℕ) (r : Answer)
     → PlansChecked refusal c n before after r → refusal ≢ Numbers.tooSlow → r .number ≡ Numbers.tooSlow → SlowSays refusal c n before
-checked-slow refusal c rises n some before after r p other e = by-checks (eq-zero-or-pos refusal)
+checked-slow refusal c rises n some before after r p other e =
+    by-case refusal c rises n some before (SlowSays refusal c n before)
+    (λ number _ cause is. go cause (is after r p .numbered))
+    (λ _ is. absurd (omega (arith, is after r p .numbered)))
   where
-    by-speed : refusal ≡ 0 → n ≤ length before → Dec (AllSlow c n) → SlowSays refusal c n before
-    by-speed z h (yes a) = record { free = record { clear = z; room = h }; all-slow = a }
-    by-speed z h (no a) = absurd (omega (arith, p .plans z h .planned a .numbered))
+    go : {number : ℕ} → Cause refusal c n before number → r .number ≡ number → SlowSays refusal c n before
+    go (of-checks q) k = absurd (other (sym q ∙ sym k ∙ e))
+    go (of-buffer q) k = absurd (omega (arith, q, k))
+    go (of-time slow) k = slow
 
-    by-room : refusal ≡ 0 → Dec (n ≤ length before) → SlowSays refusal c n before
-    by-room z (yes h) = by-speed z h (slow-decided c rises n (some z))
-    by-room z (no h) = absurd (omega (arith, p .short z (omega arith) .numbered))
+-- the answer from the search's least time, where nothing else stands against a result
+module _ (refusal : ℕ) (c : Chain) (rises : Rising c) (n : ℕ) (some : refusal ≡ 0 → 0 < n) (before after : List ℕ) (r : Answer)
+    (p : PlansChecked refusal c n before after r) (free : Free refusal n before) where
+  pub plan-computed : leastD c none n < none → r ≡ accepted (leastD c none n)
+  plan-computed l =
+      let h : 0 < n = some (free .clear) in
+      let q : Planned c n before after r = p .plans (free .clear) (free .room) .planned (slow-none c rises n h l) in
+      answer-same r (accepted (leastD c none n)) (q .numbered) (plan-is-determined c n _ _ _ _ (q .plan) (plan-is-least c rises none n h l) .0)
 
-    by-checks : (refusal ≡ 0) ⊎ (0 < refusal) → SlowSays refusal c n before
-    by-checks (inl z) = by-room z (decLe n (length before))
-    by-checks (inr h) = absurd (other (sym (p .checked h .numbered) ∙ e))
+  pub slow-computed : none ≤ leastD c none n → r ≡ refused Numbers.tooSlow
+  slow-computed l =
+      let q = p .plans (free .clear) (free .room) .slow (slow-all c rises n (some (free .clear)) l) in
+      answer-same r (refused Numbers.tooSlow) (q .numbered) (q .no-time)
 
 -- a sheet that passes checks 1 to 8 has a task
 pub some-task : (s : List ℕ) → sheetRefusal s ≡ 0 → 0 < jobOf s .tasks
@@ -171,26 +190,6 @@ pub plan-says : (s before after : List ℕ) (r : Answer) → Plans s before afte
     → AnswerSays (chainOf (jobOf s)) (jobOf s .tasks) before after r
 plan-says s before after r p z h =
     chain-says (chainOf (jobOf s)) (S-rises (jobOf s)) (jobOf s .tasks) (some-task s z) before after r (p .plans z h)
-
--- the answer to a sheet of which nothing else is wrong, from the search's least time
-module _ (s before after : List ℕ) (r : Answer) (p : Plans s before after r) (free : Free (sheetRefusal s) (jobOf s .tasks) before) where
-  abbrev chain : Chain
-  chain = chainOf (jobOf s)
-
-  abbrev n : ℕ
-  n = jobOf s .tasks
-
-  pub plan-computed : leastD chain none n < none → r ≡ accepted (leastD chain none n)
-  plan-computed l =
-      let h : 0 < n = some-task s (free .clear) in
-      let q : Planned chain n before after r = p .plans (free .clear) (free .room) .planned (slow-none chain (S-rises (jobOf s)) n h l) in
-      answer-same r (accepted (leastD chain none n)) (q .numbered)
-      (plan-is-determined chain n _ _ _ _ (q .plan) (plan-is-least chain (S-rises (jobOf s)) none n h l) .0)
-
-  pub slow-computed : none ≤ leastD chain none n → r ≡ refused Numbers.tooSlow
-  slow-computed l =
-      let q = p .plans (free .clear) (free .room) .slow (slow-all chain (S-rises (jobOf s)) n (some-task s (free .clear)) l) in
-      answer-same r (refused Numbers.tooSlow) (q .numbered) (q .no-time)
 
 planned-price : (s before after : List ℕ) (r : Answer) → sheetRefusal s ≡ 0 → jobOf s .tasks ≤ length before
     → Planned (chainOf (jobOf s)) (jobOf s .tasks) before after r → priceOf s (take (jobOf s .tasks) after) ≡ r

@@ -2,76 +2,78 @@
 use Prim.Native.Nat.{ℕ, _≤_, _<_}
 use mathlib.Core.Path.{_≡_, refl, sym, _∙_}
 use mathlib.Core.Logic.{_⊎_, inl, inr, _≢_}
-use mathlib.Core.List.{List, _++_}
+use mathlib.Core.List.{List}
 use native.Mathlib.Decide.{decLe}
-use native.Mathlib.Nat.{eq-zero-or-pos, le-trans}
+use native.Mathlib.Nat.{eq-zero-or-pos}
 use native.Mathlib.Omega.{arith}
-use Rattle.units.specs.Limits.{timeLimit, none}
+use Rattle.units.specs.Limits.{timeLimit}
 use Rattle.refusals.specs.Numbers
 use Rattle.refusals.specs.Refusals.{first, has}
 use Rattle.refusals.specs.Answers.{answered}
+use Rattle.refusals.specs.declared.Answer.{Answer}
 use Rattle.refusals.proofs.Refusals.{first-other}
 use Rattle.refusals.proofs.Answers.{answered-number, answered-time}
 use Rattle.sheet.specs.Reading.{jobOf, sheetConditions, sheetRefusal}
 use Rattle.marks.specs.Marks.{marksConditions}
 use Rattle.costs.specs.Stretch.{timeOf}
-use Rattle.costs.specs.Dearer.{Cost, OneRaised, Dearer, NotSooner}
+use Rattle.costs.specs.Dearer.{Cost, OneRaised, CostsRaised}
 use Rattle.costs.proofs.Dearer.{raised-dearer, time-dearer, marks-same}
 use Rattle.pricing.specs.Price.{priceRefusal, priceOf}
+use Rattle.pricing.specs.Dearer.{NotSooner}
 use Rattle.pricing.proofs.Prices.{slow-decides, slow-passes, price-sheet, price-marks, price-time}
 
 module _ (s l : List ℕ) where
   -- the sheet passes checks 1 to 8 and the marks 9 and 10
-  record Passed : Type 0 where
+  record Cleared : Type 0 where
     sheet : sheetRefusal s ≡ 0
     marks : first (marksConditions (jobOf s) l) ≡ 0
 
-  passed-slow : Passed → timeLimit < timeOf (jobOf s) l → priceRefusal s l ≡ Numbers.tooSlow
-  passed-slow p h = sym (slow-decides (timeOf (jobOf s) l) (omega arith) ∙ price-time s l (p .sheet) (p .marks))
+  cleared-slow : Cleared → timeLimit < timeOf (jobOf s) l → priceRefusal s l ≡ Numbers.tooSlow
+  cleared-slow p h = sym (slow-decides (timeOf (jobOf s) l) (omega arith) ∙ price-time s l (p .sheet) (p .marks))
 
-  passed-priced : Passed → timeOf (jobOf s) l ≤ timeLimit → priceRefusal s l ≡ Numbers.accepted
-  passed-priced p h = sym (slow-passes (timeOf (jobOf s) l) (omega arith) ∙ price-time s l (p .sheet) (p .marks))
+  cleared-priced : Cleared → timeOf (jobOf s) l ≤ timeLimit → priceRefusal s l ≡ Numbers.accepted
+  cleared-priced p h = sym (slow-passes (timeOf (jobOf s) l) (omega arith) ∙ price-time s l (p .sheet) (p .marks))
 
   -- where the number is none that a check gives, both pass
-  passed : (k : ℕ) → priceRefusal s l ≡ k → (0 < sheetRefusal s → sheetRefusal s ≢ k) → (0 < first (marksConditions (jobOf s) l) → first (marksConditions (jobOf s) l) ≢ k)
-      → Passed
-  passed k e other-s other-l = by-sheet (eq-zero-or-pos (sheetRefusal s))
+  cleared : (k : ℕ) → priceRefusal s l ≡ k → (0 < sheetRefusal s → sheetRefusal s ≢ k) → (0 < first (marksConditions (jobOf s) l) → first (marksConditions (jobOf s) l) ≢ k)
+      → Cleared
+  cleared k e other-s other-l = by-sheet (eq-zero-or-pos (sheetRefusal s))
     where
-      by-marks : sheetRefusal s ≡ 0 → (first (marksConditions (jobOf s) l) ≡ 0) ⊎ (0 < first (marksConditions (jobOf s) l)) → Passed
+      by-marks : sheetRefusal s ≡ 0 → (first (marksConditions (jobOf s) l) ≡ 0) ⊎ (0 < first (marksConditions (jobOf s) l)) → Cleared
       by-marks z (inl y) = record { sheet = z; marks = y }
       by-marks z (inr h) = absurd (other-l h (price-marks s l z h ∙ e))
 
-      by-sheet : (sheetRefusal s ≡ 0) ⊎ (0 < sheetRefusal s) → Passed
+      by-sheet : (sheetRefusal s ≡ 0) ⊎ (0 < sheetRefusal s) → Cleared
       by-sheet (inl z) = by-marks z (eq-zero-or-pos (first (marksConditions (jobOf s) l)))
       by-sheet (inr h) = absurd (other-s h (price-sheet s l h ∙ e))
 
   -- so of a result
-  result-passed : priceRefusal s l ≡ Numbers.accepted → Passed
-  result-passed e = passed Numbers.accepted e (λ h z. omega arith) (λ h z. omega arith)
+  result-cleared : priceRefusal s l ≡ Numbers.accepted → Cleared
+  result-cleared e = cleared Numbers.accepted e (λ h z. omega arith) (λ h z. omega arith)
 
   result-in-time : priceRefusal s l ≡ Numbers.accepted → timeOf (jobOf s) l ≤ timeLimit
   result-in-time e = go (decLe (timeOf (jobOf s) l) timeLimit)
     where
       go : Dec (timeOf (jobOf s) l ≤ timeLimit) → timeOf (jobOf s) l ≤ timeLimit
       go (yes h) = h
-      go (no h) = absurd (omega (arith, passed-slow (result-passed e) (omega arith)))
+      go (no h) = absurd (omega (arith, cleared-slow (result-cleared e) (omega arith)))
 
   -- and of 13, which no check of the sheet or the marks gives
-  slow-passed : priceRefusal s l ≡ Numbers.tooSlow → Passed
+  slow-cleared : priceRefusal s l ≡ Numbers.tooSlow → Cleared
   unfolding sheetRefusal has
-  slow-passed e =
-      passed Numbers.tooSlow e (λ _. first-other Numbers.tooSlow (sheetConditions s) (omega arith) refl)
+  slow-cleared e =
+      cleared Numbers.tooSlow e (λ _. first-other Numbers.tooSlow (sheetConditions s) (omega arith) refl)
       (λ _. first-other Numbers.tooSlow (marksConditions (jobOf s) l) (omega arith) refl)
 
   slow-time : priceRefusal s l ≡ Numbers.tooSlow → timeLimit < timeOf (jobOf s) l
   slow-time e = go (decLe (timeOf (jobOf s) l) timeLimit)
     where
       go : Dec (timeOf (jobOf s) l ≤ timeLimit) → timeLimit < timeOf (jobOf s) l
-      go (yes h) = absurd (omega (arith, passed-priced (slow-passed e) h))
+      go (yes h) = absurd (omega (arith, cleared-priced (slow-cleared e) h))
       go (no h) = omega arith
 
 -- the same marks under a sheet and a dearer one
-module _ (s s' l : List ℕ) (dearer : Dearer (jobOf s) (jobOf s')) where
+module _ (s s' l : List ℕ) (dearer : CostsRaised (jobOf s) (jobOf s')) where
   longer : timeOf (jobOf s) l ≤ timeOf (jobOf s') l
   longer = time-dearer (jobOf s) (jobOf s') dearer l
 
@@ -82,17 +84,17 @@ module _ (s s' l : List ℕ) (dearer : Dearer (jobOf s) (jobOf s')) where
   unfolding priceOf
   price-not-sooner =
       record {
-        time = λ e e'. rw (answered-time _ _ (number e), answered-time _ _ (number' e')) longer;
+        time = λ e e'. omega (arith, answered-time (priceRefusal s l) (timeOf (jobOf s) l) (number e), answered-time (priceRefusal s' l) (timeOf (jobOf s') l) (number' e'), longer);
         slow =
             λ e z.
             let k = number e in
             answered-number _ _
-            ∙ passed-slow s' l (record { sheet = z; marks = sym same ∙ slow-passed s l k .marks }) (omega (arith, slow-time s l k, longer));
+            ∙ cleared-slow s' l (record { sheet = z; marks = sym same ∙ slow-cleared s l k .marks }) (omega (arith, slow-time s l k, longer));
         result =
             λ e z.
             let k = number' e in
             answered-number _ _
-            ∙ passed-priced s l (record { sheet = z; marks = same ∙ result-passed s' l k .marks }) (omega (arith, result-in-time s' l k, longer));
+            ∙ cleared-priced s l (record { sheet = z; marks = same ∙ result-cleared s' l k .marks }) (omega (arith, result-in-time s' l k, longer));
       }
     where
       number : {k : ℕ} → answered (priceRefusal s l) (timeOf (jobOf s) l) .number ≡ k → priceRefusal s l ≡ k
@@ -100,3 +102,12 @@ module _ (s s' l : List ℕ) (dearer : Dearer (jobOf s) (jobOf s')) where
 
       number' : {k : ℕ} → answered (priceRefusal s' l) (timeOf (jobOf s') l) .number ≡ k → priceRefusal s' l ≡ k
       number' e = sym (answered-number _ _) ∙ e
+
+-- 'raising any of the five costs, other fields fixed'
+pub price-raised : (cost : Cost) (s s' l : List ℕ) → OneRaised cost (jobOf s) (jobOf s') → NotSooner (sheetRefusal s ≡ 0) (sheetRefusal s' ≡ 0) (priceOf s l) (priceOf s' l)
+price-raised cost s s' l one = price-not-sooner s s' l (raised-dearer cost (jobOf s) (jobOf s') one)
+
+-- hours booked from the dearer sheet's time are enough for the cheaper one
+pub booking-holds : {P P' : Type 0} {r r' : Answer} → NotSooner P P' r r' → P → r' .number ≡ Numbers.accepted
+    → (r .number ≡ Numbers.accepted) × (r .time ≤ r' .time)
+booking-holds law free e = let result = law .result e free in (result, law .time result e)

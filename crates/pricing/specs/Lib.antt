@@ -1,2 +1,3 @@
 pub mod Price
+pub mod Dearer
 pub mod Working
