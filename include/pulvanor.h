@@ -124,7 +124,13 @@ struct pulvanor_answer pulvanor_price(const uint8_t *sheet, size_t sheet_length,
 
 /* The least time of all allowed settings of the sheet; the setting's marks, one byte a task, are the first n
    bytes of the buffer. Refusals 1 to 8, 11 (the buffer is shorter than n) and 13 (every allowed setting is too
-   slow). A refusal writes no byte, and later bytes are never touched. */
+   slow). A refusal writes no byte, and later bytes are never touched.
+
+   Of two sheets that differ in costs alone (cd, cm, v, rd, rm), none of them less in the second, and that pass
+   1 to 8, with any two buffers that hold the marks: the second's time is not less, where the first gets 13 so
+   does the second, and where the second gets a time so does the first. The same holds of pulvanor_price under
+   the same marks, and of pulvanor_energy by the same powers where 29 refuses neither. It does not hold of
+   rates and weights. */
 struct pulvanor_answer pulvanor_plan(const uint8_t *sheet, size_t sheet_length, uint8_t *buffer, size_t buffer_length);
 
 /* The same by energy: `computing` is the power at which computing and verifying are billed, `saving` that of
