@@ -129,8 +129,8 @@ struct pulvanor_answer pulvanor_price(const uint8_t *sheet, size_t sheet_length,
    Of two sheets that differ in costs alone (cd, cm, v, rd, rm), none of them less in the second, and that pass
    1 to 8, with any two buffers that hold the marks: the second's time is not less, where the first gets 13 so
    does the second, and where the second gets a time so does the first. The same holds of pulvanor_price under
-   the same marks, and of pulvanor_energy by the same powers where 29 refuses neither. It does not hold of
-   rates and weights. */
+   the same marks, and, of the energies and not of the times of their marks, of pulvanor_energy by the same
+   powers where 29 refuses neither. It does not hold of rates and weights. */
 struct pulvanor_answer pulvanor_plan(const uint8_t *sheet, size_t sheet_length, uint8_t *buffer, size_t buffer_length);
 
 /* The same by energy: `computing` is the power at which computing and verifying are billed, `saving` that of

@@ -24,11 +24,15 @@ use Rattle.costs.specs.Dearer.{Cost, DiskCopy, MemoryCopy, Verification,
 use Rattle.costs.specs.declared.Powers.{Powers}
 use Rattle.costs.proofs.Stretches.{S-rises, plain-same}
 
+-- the cost j is k, or the same in both jobs
+abbrev Fixed : Cost → Job → Job → Cost → Type 0
+Fixed k a b j = (j ≡ k) ⊎ (costOf j (a .platform) ≡ costOf j (b .platform))
+
 -- one cost raised is a case of several
 pub raised-dearer : (k : Cost) (a b : Job) → OneRaised k a b → CostsRaised a b
 raised-dearer k a b one = record { others = one .others; costs = λ j. go j (one .fixed j) }
   where
-    go : (j : Cost) → (j ≡ k) ⊎ (costOf j (a .platform) ≡ costOf j (b .platform)) → costOf j (a .platform) ≤ costOf j (b .platform)
+    go : (j : Cost) → Fixed k a b j → costOf j (a .platform) ≤ costOf j (b .platform)
     go j (inl e) = rw e (one .raised)
     go j (inr e) = omega (arith, e)
 
@@ -39,10 +43,6 @@ each P a b c d e MemoryCopy = b
 each P a b c d e Verification = c
 each P a b c d e DiskRecovery = d
 each P a b c d e MemoryRecovery = e
-
--- the cost j is k, or the same in both jobs
-abbrev Fixed : Cost → Job → Job → Cost → Type 0
-Fixed k a b j = (j ≡ k) ⊎ (costOf j (a .platform) ≡ costOf j (b .platform))
 
 pub raised-by : (k : Cost) {a b : Job} → SameButCosts a b → costOf k (a .platform) ≤ costOf k (b .platform)
     → Fixed k a b DiskCopy → Fixed k a b MemoryCopy → Fixed k a b Verification → Fixed k a b DiskRecovery → Fixed k a b MemoryRecovery → OneRaised k a b

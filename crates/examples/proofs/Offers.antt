@@ -58,7 +58,7 @@ use Rattle.examples.specs.Offers.{
   WeightSplit,
 }
 
--- what is computed: no check refuses, there are n tasks, and the search's least time is t, which is none from there on
+-- what is computed: no check refuses, there are n tasks, and the search's least time, cut off at none, is t
 record Computed (refusal count : ℕ) (c : Chain) (n t : ℕ) : Type 0 where
   clear : refusal ≡ 0
   tasks : count ≡ n

@@ -74,8 +74,7 @@ module _ (s s' : List ℕ) (dearer : CostsRaised (jobOf s) (jobOf s')) (before a
   plan-not-sooner =
       checked-not-sooner n (chainOf (jobOf s)) (chainOf (jobOf s')) (S-rises (jobOf s)) (S-rises (jobOf s')) (chain-dearer (jobOf s) (jobOf s') dearer n)
       (sheetRefusal s) (sheetRefusal s') (some-task s) (λ z. omega (arith, some-task s' z, dearer .others .tasks))
-      (first-other Numbers.tooSlow (sheetConditions s) (omega arith) refl)
-      before after before' after' r r' (dearer .others .tasks)
+      (first-other Numbers.tooSlow (sheetConditions s) (omega arith) refl) before after before' after' r r' (dearer .others .tasks)
 
   -- in energy, by the same powers for both
   pub energy-not-sooner : (powers : Powers) → PlansByEnergy powers s before after r → PlansByEnergy powers s' before' after' r'

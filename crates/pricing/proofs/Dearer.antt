@@ -9,7 +9,6 @@ use native.Mathlib.Omega.{arith}
 use Rattle.units.specs.Limits.{timeLimit}
 use Rattle.refusals.specs.Numbers
 use Rattle.refusals.specs.Refusals.{first, has}
-use Rattle.refusals.specs.Answers.{answered}
 use Rattle.refusals.specs.declared.Answer.{Answer}
 use Rattle.refusals.proofs.Refusals.{first-other}
 use Rattle.refusals.proofs.Answers.{answered-number, answered-time}
@@ -72,6 +71,11 @@ module _ (s l : List ℕ) where
       go (yes h) = absurd (omega (arith, cleared-priced (slow-cleared e) h))
       go (no h) = omega arith
 
+  -- the number of a price
+  number : {k : ℕ} → priceOf s l .number ≡ k → priceRefusal s l ≡ k
+  unfolding priceOf
+  number e = sym (answered-number (priceRefusal s l) (timeOf (jobOf s) l)) ∙ e
+
 -- the same marks under a sheet and a dearer one
 module _ (s s' l : List ℕ) (dearer : CostsRaised (jobOf s) (jobOf s')) where
   longer : timeOf (jobOf s) l ≤ timeOf (jobOf s') l
@@ -84,30 +88,24 @@ module _ (s s' l : List ℕ) (dearer : CostsRaised (jobOf s) (jobOf s')) where
   unfolding priceOf
   price-not-sooner =
       record {
-        time = λ e e'. omega (arith, answered-time (priceRefusal s l) (timeOf (jobOf s) l) (number e), answered-time (priceRefusal s' l) (timeOf (jobOf s') l) (number' e'), longer);
+        time = λ e e'. omega (arith, answered-time (priceRefusal s l) (timeOf (jobOf s) l) (number s l e), answered-time (priceRefusal s' l) (timeOf (jobOf s') l) (number s' l e'), longer);
         slow =
             λ e z.
-            let k = number e in
+            let k = number s l e in
             answered-number _ _
             ∙ cleared-slow s' l (record { sheet = z; marks = sym same ∙ slow-cleared s l k .marks }) (omega (arith, slow-time s l k, longer));
         result =
             λ e z.
-            let k = number' e in
+            let k = number s' l e in
             answered-number _ _
             ∙ cleared-priced s l (record { sheet = z; marks = same ∙ result-cleared s' l k .marks }) (omega (arith, result-in-time s' l k, longer));
       }
-    where
-      number : {k : ℕ} → answered (priceRefusal s l) (timeOf (jobOf s) l) .number ≡ k → priceRefusal s l ≡ k
-      number e = sym (answered-number _ _) ∙ e
-
-      number' : {k : ℕ} → answered (priceRefusal s' l) (timeOf (jobOf s') l) .number ≡ k → priceRefusal s' l ≡ k
-      number' e = sym (answered-number _ _) ∙ e
 
 -- 'raising any of the five costs, other fields fixed'
 pub price-raised : (cost : Cost) (s s' l : List ℕ) → OneRaised cost (jobOf s) (jobOf s') → NotSooner (sheetRefusal s ≡ 0) (sheetRefusal s' ≡ 0) (priceOf s l) (priceOf s' l)
 price-raised cost s s' l one = price-not-sooner s s' l (raised-dearer cost (jobOf s) (jobOf s') one)
 
--- hours booked from the dearer sheet's time are enough for the cheaper one
+-- where the dearer sheet gets a result, so does the cheaper, and it is not more: hours booked from the dearer's time are enough
 pub booking-holds : {P P' : Type 0} {r r' : Answer} → NotSooner P P' r r' → P → r' .number ≡ Numbers.accepted
     → (r .number ≡ Numbers.accepted) × (r .time ≤ r' .time)
 booking-holds law free e = let result = law .result e free in (result, law .time result e)
