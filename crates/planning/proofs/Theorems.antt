@@ -1,5 +1,5 @@
--- The plan's promise leaves one answer and one buffer, and pricing the plan's marks gives the plan's own answer.
--- Assumes nothing.
+-- The plan's promise leaves one answer and one buffer; what a result, a refusal and 13 say; the answer from the search's least time; and pricing the plan's marks
+-- gives the plan's own answer. Assumes nothing.
 use Prim.Native.Nat.{ℕ, suc, _≤_, _<_}
 use mathlib.Core.Path.{_≡_, refl, sym, _∙_}
 use mathlib.Core.List.{List}
