@@ -12,8 +12,8 @@
 //! - `library`: the calls of the proved library. Uses `types`, `log_writer`
 //!   and, where a stand-in answers for the library, `reference`.
 //! - `harness`: random inputs (`marks`, `powers`, `jobs`, `sheets`, `runs`),
-//!   the counts (`changes`, `tally`) and the comparison (`check`, which calls
-//!   `joins`, `energies` and `dearer`). Uses all of the above.
+//!   the counts (`changes`, `tally`, `plans`) and the comparison (`check`, which
+//!   calls `joins`, `energies` and `dearer`). Uses all of the above.
 //!
 //! Two programs use these: `compare` (`main.rs`), and `bench` (`bin/bench`)
 //! with two planners of its own that nothing else uses. `tests/circles.rs`

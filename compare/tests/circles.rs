@@ -75,7 +75,7 @@ fn sources(root: &str, file: &str) -> Sources {
 #[test]
 fn no_circles() {
     for (root, file, known) in
-        [("src", "lib.rs", "harness::jobs::ties"), ("src/bin/bench", "main.rs", "tuned")]
+        [("src", "lib.rs", "harness::jobs::ties"), ("src/bin/bench", "main.rs", "bounded")]
     {
         let sources = sources(root, file);
         assert!(sources.contains_key(known));

@@ -11,7 +11,7 @@ use compare::reference::run::{self, History};
 use compare::reference::setting::{self, price};
 use compare::reference::sheet::{self, lookup, Section};
 use compare::sheet_writer;
-use compare::types::{Event, Platform, Powers, Run};
+use compare::types::{Event, Job, Platform, Powers, Run};
 
 const UNIT: u128 = 1 << 24;
 
@@ -371,4 +371,18 @@ fn tie_rule() {
     assert!(plan::wins_tie(&[3, 0, 2, 3], &[0, 3, 0, 3]));
     assert!(plan::wins_tie(&[2, 0, 1, 3], &[0, 2, 0, 3]));
     assert!(!plan::wins_tie(&[2, 3], &[2, 3]));
+}
+
+/// Settings of one time are counted: all of them if marks are free, those
+/// without a disk copy but the last if copies in memory are.
+#[test]
+fn settings_of_one_time() {
+    let count = |platform: Platform, time: u128| {
+        plan::settings_of_time(&Job::new(platform, &[5, 7, 9]), time)
+    };
+    assert_eq!(count(FREE, 21), 16);
+    assert_eq!(count(FREE, 20), 0);
+    assert_eq!(count(Platform { cd: 1, ..FREE }, 22), 9);
+    assert_eq!(count(Platform { cd: 1, ..FREE }, 23), 6);
+    assert_eq!(count(Platform { v: 1, ..FREE }, 22), 1);
 }

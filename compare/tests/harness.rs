@@ -172,7 +172,14 @@ fn complete_needs_every_number_and_every_edge_often() {
         assert!(!tally.complete());
         (0..WANTED).for_each(|_| tally.count(Call::Plan, number));
     }
-    let edges: [fn(&mut Tally) -> &mut u64; 48] = [
+    let edges: [fn(&mut Tally) -> &mut u64; 55] = [
+        |t| &mut t.plans.tied,
+        |t| &mut t.plans.zero_cost,
+        |t| &mut t.plans.zero_rate,
+        |t| &mut t.plans.near_limit,
+        |t| &mut t.plans.past_limit,
+        |t| &mut t.plans.long,
+        |t| &mut t.plans.long_near_limit,
         |t| &mut t.joins.of_64,
         |t| &mut t.joins.of_65,
         |t| &mut t.joins.at_total,

@@ -6,6 +6,7 @@ use crate::harness::jobs::{self, Case};
 use crate::harness::joins;
 use crate::harness::lent::{self, Lent};
 use crate::harness::marks;
+use crate::harness::plans;
 use crate::harness::runs;
 use crate::harness::sheets;
 use crate::harness::tally::{Call, Tally};
@@ -13,10 +14,9 @@ use crate::library;
 use crate::random::Random;
 use crate::reference::calls;
 use crate::reference::growth::EXPONENT_LIMIT;
-use crate::reference::plan::{self, MAX_TRIED_TASKS};
 use crate::reference::printed::MAX_PRINTED_TASKS;
 use crate::reference::run::{self, History};
-use crate::reference::setting::{self, MAX_TIME};
+use crate::reference::setting;
 use crate::reference::sheet;
 use crate::sheet_writer::HEADER_SIZE;
 use crate::types::{Answer, Event, Job, Outcome, Run, MAX_TASKS};
@@ -51,7 +51,7 @@ impl Check<'_> {
         joins::one(self.random, self.tally, &self.sheet, &case.job);
         let job = sheet::read(&self.sheet);
         self.count_strays(job.as_ref().err().copied().unwrap_or(0));
-        self.plan(case.job.tasks);
+        let planned = self.plan(case.job.tasks);
         self.printed(case.job.tasks, job.is_ok());
         energies::one(self.random, self.tally, &self.sheet, &case.job);
         let Ok(job) = job else {
@@ -61,9 +61,7 @@ impl Check<'_> {
             return;
         };
         self.tally.read += 1;
-        if job.tasks <= MAX_TRIED_TASKS {
-            self.edge(plan::by_rows(&job).time);
-        }
+        plans::count(self.tally, &job, &planned);
         self.prices(&job, case);
         let read = Case { job, marks: case.marks.clone() };
         dearer::one(self.random, self.tally, &self.sheet, read);
@@ -146,7 +144,7 @@ impl Check<'_> {
         if let Some(marks) = &case.marks {
             self.price(marks);
             if setting::check_marks(job, marks).is_ok() {
-                self.edge(setting::time(job, marks));
+                plans::count_edge(self.tally, setting::time(job, marks));
             }
         }
         for _ in 0..2 {
@@ -157,14 +155,9 @@ impl Check<'_> {
         self.price(&marks);
     }
 
-    /// Counts times just at the limit.
-    fn edge(&mut self, time: u128) {
-        self.tally.at_limit += u64::from(time == MAX_TIME);
-        self.tally.over_limit += u64::from(time == MAX_TIME + 1);
-    }
-
-    /// A plan into a buffer with guards; the whole memory is compared.
-    fn plan(&mut self, n: usize) {
+    /// A plan into a buffer with guards; the whole memory is compared. Hands
+    /// back the reference's answer.
+    fn plan(&mut self, n: usize) -> Answer {
         let size = lent::room(self.random, n);
         let mut lent = Lent::new(self.random, size);
         let mut library_lent = lent.clone();
@@ -176,6 +169,7 @@ impl Check<'_> {
         if reference.number == 0 {
             self.price_of_plan(lent.buffer(), reference.time);
         }
+        reference
     }
 
     /// The equations as printed, into a buffer that holds the marks and, now

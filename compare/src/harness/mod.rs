@@ -8,6 +8,7 @@ pub mod jobs;
 mod joins;
 mod lent;
 pub mod marks;
+mod plans;
 mod powers;
 pub mod runs;
 pub mod sheets;

@@ -30,6 +30,25 @@ pub const WANTED: u64 = 100;
 /// Differences printed in full.
 const SHOWN: u64 = 5;
 
+/// Plans at an edge.
+#[derive(Default)]
+pub struct Plans {
+    /// Several settings have the least time; counted for few tasks.
+    pub tied: u64,
+    /// A cost is 0.
+    pub zero_cost: u64,
+    /// A rate is 0.
+    pub zero_rate: u64,
+    /// Times at most 2^30 below 2^34.
+    pub near_limit: u64,
+    /// Least times at most 2^30 above that, refused by 13.
+    pub past_limit: u64,
+    /// Of 32 tasks or more.
+    pub long: u64,
+    /// Of 32 tasks or more, at most 2^30 below 2^34 or above it.
+    pub long_near_limit: u64,
+}
+
 /// Joins at an edge.
 #[derive(Default)]
 pub struct Joins {
@@ -130,6 +149,7 @@ pub struct Tally {
     pub growths: u64,
     pub at_limit: u64,
     pub over_limit: u64,
+    pub plans: Plans,
     pub joins: Joins,
     pub refills: Refills,
     pub printed: Printed,
@@ -200,11 +220,19 @@ impl Tally {
         shown
     }
 
-    /// How often each edge of the requests was seen.
-    fn edges(&self) -> [(&'static str, u64); 48] {
-        let (j, r, p, s) = (&self.joins, &self.refills, &self.printed, &self.strays);
+    /// How often each edge was seen.
+    fn edges(&self) -> [(&'static str, u64); 55] {
+        let (l, j, r) = (&self.plans, &self.joins, &self.refills);
+        let (p, s) = (&self.printed, &self.strays);
         let (e, d) = (&self.energies, &self.dearer);
         [
+            ("plans, tied", l.tied),
+            ("plans, cost 0", l.zero_cost),
+            ("plans, rate 0", l.zero_rate),
+            ("plans near 2^34", l.near_limit),
+            ("13 near 2^34", l.past_limit),
+            ("32 tasks or more", l.long),
+            ("and near 2^34", l.long_near_limit),
             ("joined, 64 tasks", j.of_64),
             ("refused, 65", j.of_65),
             ("joined, 2^30", j.at_total),

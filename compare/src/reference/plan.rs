@@ -44,27 +44,29 @@ fn setting_of(code: usize, n: usize) -> Vec<u8> {
     (0..n - 1).map(mark).chain([3]).collect()
 }
 
+/// Every allowed setting of a sheet that passed 1 to 8, with its time under
+/// some costs.
+fn allowed_settings<'a>(costs: &'a impl Costs, job: &'a Job) -> impl Iterator<Item = Plan> + 'a {
+    let table = Table::new(job);
+    let all = (0..1usize << (2 * (job.tasks - 1))).map(|code| setting_of(code, job.tasks));
+    all.filter(|marks| setting::allowed(job, marks)).map(move |marks| {
+        let growths = |u, v| table.get(u, v).expect("an allowed setting");
+        Plan { time: setting::time_with(costs, &marks, growths), marks }
+    })
+}
+
 /// The plan under some costs by trying every setting of a sheet that passed 1
 /// to 8.
 pub fn by_trying_under(costs: &impl Costs, job: &Job) -> Plan {
-    let table = Table::new(job);
-    let growths = |u, v| table.get(u, v).expect("an allowed setting");
-    let mut best: Option<Plan> = None;
-    for code in 0..1usize << (2 * (job.tasks - 1)) {
-        let marks = setting_of(code, job.tasks);
-        if !setting::allowed(job, &marks) {
-            continue;
-        }
-        let time = setting::time_with(costs, &marks, growths);
-        let better = match &best {
-            None => true,
-            Some(b) => time < b.time || (time == b.time && wins_tie(&marks, &b.marks)),
-        };
-        if better {
-            best = Some(Plan { time, marks });
-        }
-    }
+    let better =
+        |a: &Plan, b: &Plan| a.time < b.time || (a.time == b.time && wins_tie(&a.marks, &b.marks));
+    let best = allowed_settings(costs, job).reduce(|a, b| if better(&b, &a) { b } else { a });
     best.expect("all marks 3 is allowed")
+}
+
+/// How many allowed settings of a sheet that passed 1 to 8 have a time.
+pub fn settings_of_time(job: &Job, time: u128) -> usize {
+    allowed_settings(&job.platform, job).filter(|setting| setting.time == time).count()
 }
 
 /// The plan by trying every setting of a sheet that passed 1 to 8.

@@ -1,24 +1,29 @@
-//! `bench`: the library's plan beside a plain Rust planner of the same
-//! algorithm and a tuned one, its plan by energy beside that by time, and how
-//! many prices and steps a second.
+//! `bench`: the library's plan beside two Rust planners, a plain one and one
+//! with bounds as the library has them, its plan by energy beside that by time,
+//! and how many prices and steps a second.
 
+// Loops go by positions, as the equations do.
+#![allow(clippy::needless_range_loop)]
+
+mod bounded;
+mod bounds;
 mod cases;
+mod pairs;
 mod plain;
+mod rows;
+mod stretch;
 mod timing;
-mod tuned;
 
 use compare::library;
-use compare::random::Random;
 use compare::reference::run;
 use compare::reference::setting;
 use compare::reference::sheet;
 use compare::types::{Event, Job, Powers, Run, MAX_TASKS};
-use plain::Plan;
+use rows::Plan;
 use std::hint::black_box;
 use timing::{median, timed};
 
 const SIZES: [usize; 4] = [8, 16, 32, 64];
-const RANDOM_SHEETS: usize = 5;
 const POWERS: Powers = Powers { computing: 2, saving: 3 };
 
 /// A time and marks, all 0 if refused.
@@ -28,7 +33,7 @@ type Planned = (u64, [u8; MAX_TASKS]);
 struct Medians {
     library: f64,
     plain: f64,
-    tuned: f64,
+    bounded: f64,
 }
 
 fn library_plan(sheet: &[u8]) -> Planned {
@@ -52,56 +57,71 @@ fn effort(n: usize) -> (usize, u32) {
     }
 }
 
-/// The planners in turn on the sheets, the first place changing hands.
+/// One planner on all the sheets, one after the other.
+fn pass(batch: u32, sheets: &[Vec<u8>], planner: impl Fn(&[u8]) -> Planned) -> f64 {
+    timed(batch, || sheets.iter().map(|s| planner(black_box(s)).0).sum::<u64>())
+}
+
+/// The planners in turn on all the sheets, the first place changing hands.
 fn planners(sheets: &[Vec<u8>], n: usize) -> Medians {
     let (rounds, batch) = effort(n);
     let mut times = [Vec::new(), Vec::new(), Vec::new()];
     for round in 0..rounds {
-        let sheet = black_box(&sheets[round % sheets.len()]);
         for turn in 0..3 {
-            let which = (round / sheets.len() + turn) % 3;
+            let which = (round + turn) % 3;
             times[which].push(match which {
-                0 => timed(batch, || library_plan(sheet)),
-                1 => timed(batch, || rust_plan(sheet, plain::plan)),
-                _ => timed(batch, || rust_plan(sheet, tuned::plan)),
+                0 => pass(batch, sheets, library_plan),
+                1 => pass(batch, sheets, |s| rust_plan(s, plain::plan)),
+                _ => pass(batch, sheets, |s| rust_plan(s, bounded::plan)),
             });
         }
     }
-    let [library, plain, tuned] = times.map(median);
-    Medians { library, plain, tuned }
+    let [library, plain, bounded] = times.map(median);
+    Medians { library, plain, bounded }
 }
 
 /// The planners agree on a sheet.
 fn agree(sheet: &[u8]) -> bool {
     let ours = library_plan(sheet);
-    ours == rust_plan(sheet, plain::plan) && ours == rust_plan(sheet, tuned::plan)
+    ours == rust_plan(sheet, plain::plan) && ours == rust_plan(sheet, bounded::plan)
 }
 
-fn row(name: &str, n: usize, sheets: &[Vec<u8>]) {
+fn row(name: &str, n: usize, jobs: &[Job]) {
+    let sheets: Vec<_> = jobs.iter().map(cases::sheet).collect();
     if !sheets.iter().all(|s| agree(s)) {
         println!("{name:<12}{n:>6}  the planners differ");
         return;
     }
-    let m = planners(sheets, n);
-    let (a, b) = (m.library / m.plain, m.library / m.tuned);
-    print!("{name:<12}{n:>6}{:>11.1}{:>11.1}{:>11.1}", m.library, m.plain, m.tuned);
-    println!("{a:>15.2}{b:>15.2}");
+    let m = planners(&sheets, n);
+    let (a, b) = (m.library / m.plain, m.library / m.bounded);
+    print!("{name:<12}{n:>6}{:>11.1}{:>11.1}{:>11.1}", m.library, m.plain, m.bounded);
+    println!("{a:>15.2}{b:>17.2}");
+}
+
+fn heading(what: &str) {
+    print!("{what:<12}{:>6}{:>11}{:>11}{:>11}", "tasks", "library", "plain", "bounded");
+    println!("{:>15}{:>17}", "library/plain", "library/bounded");
 }
 
 fn plans() {
     println!("plan, medians in microseconds");
-    print!("{:<12}{:>6}{:>11}{:>11}{:>11}", "platform", "tasks", "library", "plain", "tuned");
-    println!("{:>15}{:>15}", "library/plain", "library/tuned");
+    heading("platform");
     for platform in &cases::TABLE {
         for n in SIZES {
             row(platform.name, n, &[cases::listed(platform, n)]);
         }
     }
-    let mut random = Random::new(3);
-    for n in SIZES {
-        let sheets: Vec<_> = (0..RANDOM_SHEETS).map(|_| cases::random(&mut random, n)).collect();
-        row("random", n, &sheets);
+    println!("plans of {} random sheets, medians of their total", cases::SHEETS);
+    heading("class");
+    for class in &cases::CLASSES {
+        for n in SIZES {
+            row(class.name, n, &cases::jobs(class, n));
+        }
     }
+}
+
+fn hera(n: usize) -> Vec<u8> {
+    cases::sheet(&cases::listed(&cases::HERA, n))
 }
 
 fn energy_plan(sheet: &[u8]) -> Planned {
@@ -127,7 +147,7 @@ fn energies() {
     println!("library's plans, Hera, powers {computing} and {saving}, medians in microseconds");
     println!("{:<12}{:>6}{:>11}{:>11}{:>15}", "", "tasks", "by time", "by energy", "energy/time");
     for n in SIZES {
-        let (time, energy) = time_and_energy(&cases::listed(&cases::HERA, n), n);
+        let (time, energy) = time_and_energy(&hera(n), n);
         println!("{:<12}{n:>6}{time:>11.1}{energy:>11.1}{:>15.2}", "", energy / time);
     }
 }
@@ -164,13 +184,13 @@ fn calls() {
     println!("calls a second, Hera, every mark 2 and the last 3");
     println!("{:<18}{:>14}{:>14}{:>9}", "call", "library", "reference", "ratio");
     for n in SIZES {
-        let (sheet, marks) = (cases::listed(&cases::HERA, n), marks(n));
+        let (sheet, marks) = (hera(n), marks(n));
         let library = || library::price(black_box(&sheet), black_box(&marks));
         let reference = || setting::price(black_box(&sheet), black_box(&marks));
         pace(&format!("price, {n} tasks"), 200, library, reference);
     }
     for n in SIZES {
-        let run = middle(&cases::listed(&cases::HERA, n), n);
+        let run = middle(&hera(n), n);
         let library = || library::step(black_box(&run), Event::Passed);
         let reference = || run::step(black_box(&run), Event::Passed);
         pace(&format!("step, {n} tasks"), 2000, library, reference);
@@ -186,8 +206,10 @@ fn main() {
 
 #[cfg(test)]
 mod tests {
-    use crate::plain::{self, Plan};
-    use crate::tuned;
+    use crate::bounded;
+    use crate::cases::{self, CLASSES};
+    use crate::plain;
+    use crate::rows::Plan;
     use compare::harness::jobs;
     use compare::random::Random;
     use compare::reference::plan;
@@ -195,9 +217,27 @@ mod tests {
     use compare::reference::sheet;
     use compare::types::Job;
 
+    /// The jobs of the class of a name.
+    fn of_class(name: &str, n: usize) -> Vec<Job> {
+        let class = CLASSES.iter().find(|class| class.name == name).expect("a class");
+        cases::jobs(class, n)
+    }
+
     fn planned(planner: fn(&Job) -> Option<Plan>, job: &Job) -> Option<plan::Plan> {
         let plan = planner(job)?;
         Some(plan::Plan { time: u128::from(plan.time), marks: plan.marks[..job.tasks].to_vec() })
+    }
+
+    /// Both planners give the reference's plan, or none if that is too slow.
+    fn agree_with_reference(job: &Job) {
+        let reference = plan::by_rows(job);
+        let reference = (reference.time <= MAX_TIME).then_some(reference);
+        assert_eq!(planned(plain::plan, job), reference, "plain, {job:?}");
+        assert_eq!(planned(bounded::plan, job), reference, "bounded, {job:?}");
+    }
+
+    fn agree(job: &Job) {
+        assert_eq!(planned(bounded::plan, job), planned(plain::plan, job), "{job:?}");
     }
 
     #[test]
@@ -205,13 +245,71 @@ mod tests {
         let mut random = Random::new(11);
         for _ in 0..3000 {
             let job = jobs::any(&mut random, 24).job;
-            if sheet::check_values(&job).is_err() {
-                continue;
+            if sheet::check_values(&job).is_ok() {
+                agree_with_reference(&job);
             }
-            let reference = plan::by_rows(&job);
-            let reference = (reference.time <= MAX_TIME).then_some(reference);
-            assert_eq!(planned(plain::plan, &job), reference);
-            assert_eq!(planned(tuned::plan, &job), reference);
+        }
+    }
+
+    #[test]
+    fn both_agree_with_the_reference_on_the_classes() {
+        for class in &CLASSES {
+            for n in [1, 2, 3, 5, 8, 9, 16, 17, 24] {
+                cases::jobs(class, n).iter().for_each(agree_with_reference);
+            }
+        }
+    }
+
+    #[test]
+    fn both_agree_on_long_chains() {
+        for class in &CLASSES {
+            for n in [32, 33, 48, 64] {
+                cases::jobs(class, n).iter().for_each(agree);
+            }
+        }
+    }
+
+    #[test]
+    fn classes_pass_1_to_8() {
+        for class in &CLASSES {
+            for n in [1, 2, 3, 4, 8, 16, 32, 64] {
+                for job in cases::jobs(class, n) {
+                    assert_eq!(sheet::read(&cases::sheet(&job)), Ok(job), "{}", class.name);
+                }
+            }
+        }
+    }
+
+    /// Most least times are within 5 percent of 2^34, and some are above it.
+    #[test]
+    fn near_limit_is_near_the_limit() {
+        let limit = MAX_TIME as f64;
+        for n in [8, 16, 32, 64] {
+            let jobs = of_class("near 2^34", n);
+            let times: Vec<u128> = jobs.iter().map(|job| plan::by_rows(job).time).collect();
+            let near = times.iter().filter(|&&time| (time as f64 / limit - 1.0).abs() < 0.05);
+            assert!(near.count() * 4 >= times.len() * 3, "{n} tasks: {times:?}");
+            assert!(times.iter().any(|&time| time > MAX_TIME), "{n} tasks: {times:?}");
+        }
+    }
+
+    /// Most plans share their time with another setting.
+    #[test]
+    fn ties_are_tied() {
+        let jobs = of_class("ties", 6);
+        let settings = |job| plan::settings_of_time(job, plan::by_rows(job).time);
+        let tied = jobs.iter().filter(|job| settings(job) > 1).count();
+        assert!(tied * 2 >= jobs.len(), "{tied}");
+    }
+
+    #[test]
+    fn many_copies_are_many() {
+        for n in [8, 16, 32, 64] {
+            for job in of_class("many copies", n) {
+                let plan = bounded::plan(&job).expect("a plan");
+                let copies = |least: u8| plan.marks.iter().filter(|&&mark| mark >= least).count();
+                assert!(copies(2) * 2 >= n && copies(3) * 4 >= n, "{job:?}");
+            }
         }
     }
 }

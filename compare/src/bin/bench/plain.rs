@@ -1,63 +1,22 @@
-//! A planner in plain Rust with the library's algorithm: rows filled forward
-//! at three levels, the growth sums of each pair of ends worked out once, and a
-//! walk back that fills again the rows that it needs.
+//! A planner in plain Rust that fills every row: rows filled forward at three
+//! levels, the growth sums of each pair of ends worked out once, and a walk back
+//! that fills again the rows that it needs.
 //!
 //! A time beyond the limit is kept as NONE = 2^34. A growth is under 2^29.8
 //! and a time with a recovery at most 2^34 + 2^31, so products fit 64 bits.
 
+use crate::rows::{self, unless_start, Plan, NONE};
+use crate::stretch::{
+    up, Factors, EXPONENT_LIMIT, GUARD, LAST_TERM, SETTLED_FROM, TERM_UNIT, UNIT,
+};
 use compare::types::{Job, Platform, MAX_TASKS};
 
 const POSITIONS: usize = MAX_TASKS + 1;
-const UNIT: u64 = 1 << 24;
-const EXPONENT_LIMIT: u64 = 1 << 26;
-const LAST_TERM: u64 = 32;
-/// Terms are carried in units of 2^-30, 64 of which make one of 2^-24.
-const TERM_UNIT: u64 = 1 << 30;
-const GUARD: u64 = 64;
-const SETTLED_FROM: u64 = 4;
-/// 'None yet', and any time above the limit.
-const NONE: u64 = 1 << 34;
 
-/// A plan, or nothing if it is too slow.
-pub struct Plan {
-    pub time: u64,
-    pub marks: [u8; MAX_TASKS],
-}
+type Row = rows::Row<POSITIONS>;
 
-/// The growth sums of one pair of ends; `error` is 0 if it is not allowed.
-#[derive(Clone, Copy, Default)]
-struct Factors {
-    work: u64,
-    silent: u64,
-    error: u64,
-}
-
+/// The growth sums of each pair of ends, by earlier end.
 type Table = [[Factors; POSITIONS]; POSITIONS];
-
-/// The best time to each position, and the position before it.
-struct Row {
-    time: [u64; POSITIONS],
-    before: [usize; POSITIONS],
-}
-
-impl Row {
-    fn from(start: usize) -> Row {
-        let mut row = Row { time: [NONE; POSITIONS], before: [0; POSITIONS] };
-        row.time[start] = 0;
-        row
-    }
-
-    fn offer(&mut self, v: usize, u: usize, time: u64) {
-        if time < self.time[v] {
-            self.time[v] = time;
-            self.before[v] = u;
-        }
-    }
-}
-
-fn up(p: u64) -> u64 {
-    (p + (UNIT - 1)) / UNIT
-}
 
 /// 33 terms; dividing by 2^24 first and by k + shift next rounds up the same
 /// way. From term 4 on, a product of 1 or 0 stands for all later terms.
@@ -98,14 +57,6 @@ fn table(job: &Job) -> Table {
     table
 }
 
-fn unless_start(cost: u32, position: usize) -> u64 {
-    if position == 0 {
-        0
-    } else {
-        u64::from(cost)
-    }
-}
-
 /// The best Q from m; `disk` is R_D' + M' and `memory` is R_M'.
 fn verification_row(t: &Table, m: usize, disk: u64, memory: u64, top: usize) -> Row {
     let mut row = Row::from(m);
@@ -129,8 +80,9 @@ fn verification_row(t: &Table, m: usize, disk: u64, memory: u64, top: usize) -> 
 
 /// The verifications after the memory copy m, whose M is `time`.
 fn after_copy(t: &Table, p: &Platform, d: usize, m: usize, time: u64, top: usize) -> Row {
-    let disk = unless_start(p.rd, d) + unless_start(p.rm, d) + time;
-    verification_row(t, m, disk, unless_start(p.rm, m), top)
+    let (rd, rm) = (u64::from(p.rd), u64::from(p.rm));
+    let disk = unless_start(rd + rm, d) + time;
+    verification_row(t, m, disk, unless_start(rm, m), top)
 }
 
 /// The best M from d.

@@ -105,3 +105,25 @@ pub fn planned_at_limit(r: &mut Random, n: usize) -> Job {
     }
     job
 }
+
+/// A job in which no two tasks may be one stretch, so that each has a V, and
+/// copies cost little beside it. V is raised until marks of 3 alone are at the
+/// limit, and then changed by up to 3 percent: the least time is near the
+/// limit, however many tasks there are.
+pub fn all_marked_near_limit(r: &mut Random, n: usize) -> Job {
+    let each = r.between(1 << 26, 1 << 28) / n as u64;
+    let weights: Vec<u32> = (0..n).map(|_| r.between(each, each + each / 4) as u32).collect();
+    let exponent = r.between(17 << 21, 25 << 21);
+    let part = if r.chance(30) { 0 } else { r.below(exponent + 1) };
+    let (failstop, silent) = (rate_for(part, each), rate_for(exponent - part, each));
+    let mut job = Job::new(any_costs(r, 1 << 16, failstop, silent), &weights);
+    let (table, marks) = (Table::new(&job), vec![3; n]);
+    let growths = |u, v| table.get(u, v).expect("a task alone");
+    let within = |v: u64| {
+        let platform = Platform { v: v as u32, ..job.platform };
+        setting::time_with(&platform, &marks, growths) <= MAX_TIME
+    };
+    let v = largest(MAX_TICKS, within) * r.between(99, 103) / 100;
+    job.platform.v = v.min(MAX_TICKS) as u32;
+    job
+}

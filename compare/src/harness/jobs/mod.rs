@@ -8,11 +8,11 @@ mod ties;
 mod values;
 
 use crate::random::Random;
-use crate::types::{Job, Platform};
+use crate::types::{Job, Platform, MAX_TASKS};
 pub use billed::{at_energy_limit, billed};
 pub use dearer::{costs, dearer};
 pub use partners::{light, partner};
-use values::{any_costs, any_rates, any_weights, split, total, MAX_TICKS};
+use values::{any_costs, any_rates, any_weights, rate_for, split, total, MAX_TICKS};
 
 /// The reference takes its time over more tasks than these, so that few such
 /// jobs are planned more than once.
@@ -37,16 +37,27 @@ fn tasks(r: &mut Random) -> usize {
     r.between(low, high) as usize
 }
 
+/// A task count of a long chain, mostly of the shorter ones.
+fn long(r: &mut Random) -> usize {
+    let high = r.pick(&[36, 36, 36, 36, 36, MAX_TASKS as u64]);
+    r.between(32, high) as usize
+}
+
 /// Any job of up to `most` tasks.
 pub fn any(r: &mut Random, most: usize) -> Case {
     let n = tasks(r).min(most);
     let job = match r.below(100) {
-        0..=23 => ordinary(r, n),
+        0..=20 => ordinary(r, n),
+        21..=23 => rarely_stopped(r, n),
         24..=33 => ties::tied(r, n),
         34..=38 => ties::nearly_tied(r, n),
         39..=44 => ties::at_switch(r, (n + 2).min(9).min(most)),
         45..=51 => without_rates(r, n),
-        52..=66 => limits::at_exponent_limit(r, n),
+        52..=62 => limits::at_exponent_limit(r, n),
+        63..=66 => {
+            let n = long(r).min(most);
+            limits::all_marked_near_limit(r, n)
+        }
         67..=73 => {
             let (job, marks) = limits::priced_at_limit(r, n);
             return Case { job, marks: Some(marks) };
@@ -76,6 +87,16 @@ fn ordinary(r: &mut Random, n: usize) -> Job {
     let (failstop, silent) = any_rates(r, all);
     let scale = (all / n as u64) >> r.below(8);
     Job::new(any_costs(r, scale, failstop, silent), &weights)
+}
+
+/// Fail-stop errors so rare that rounding decides what they add to the time,
+/// which then may be less for a longer stretch.
+fn rarely_stopped(r: &mut Random, n: usize) -> Job {
+    let mut job = ordinary(r, n);
+    let all = total(job.task_weights());
+    job.platform.failstop = r.between(1, 4) as u32;
+    job.platform.silent = rate_for(r.between(1 << 22, 1 << 26), all);
+    job
 }
 
 /// No fail-stop errors, no silent ones, or neither.
