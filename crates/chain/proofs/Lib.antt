@@ -5,6 +5,7 @@ pub mod Search
 pub mod Products
 pub mod Lower
 pub mod Walk
+pub mod Bounds
 pub mod Placing
 pub mod Attained
 pub mod Order

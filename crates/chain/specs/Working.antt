@@ -3,3 +3,4 @@ pub mod Search
 pub mod Factors
 pub mod Same
 pub mod Walk
+pub mod Bounds

@@ -22,3 +22,8 @@ up-lt p = omega arith
 pub up-cap : {p : ℕ} (k : ℕ) → p ≤ k * unit → up p ≤ k
 unfolding up
 up-cap k h = omega arith
+
+-- two parts rounded up apart are not less than their sum rounded up
+pub up-add : (p q : ℕ) → up (p + q) ≤ up p + up q
+unfolding up
+up-add p q = omega arith
