@@ -1,6 +1,6 @@
 -- Costs at each position are in range, and so are the products that make a stretch's factors. Assumes nothing.
-use Prim.Native.Nat.{ℕ, _+_, _*_, _≤_}
-use mathlib.Core.Path.{_≡_}
+use Prim.Native.Nat.{ℕ, _+_, _*_, _≤_, _<_}
+use mathlib.Core.Path.{_≡_, refl, sym}
 use mathlib.Core.Bool.{Bool, true, false, cond}
 use native.Mathlib.Nat.{one-mul, mul-le-mul-left}
 use native.Mathlib.Omega.{arith}
@@ -11,7 +11,7 @@ use Rattle.units.specs.Limits.{costLimit}
 use Rattle.units.specs.Working.Caps.{growthCap, meanGrowthCap}
 use Rattle.units.proofs.Laws.{up-cap}
 use Rattle.growth.specs.Growth.{G, H}
-use Rattle.growth.proofs.Laws.{G-cap, H-cap, G-unit, G-sum}
+use Rattle.growth.proofs.Laws.{G-cap, H-cap, G-unit, G-sum, G-none}
 use Rattle.chain.specs.Working.Factors.{Factored}
 use Rattle.chain.proofs.Products.{capped}
 use Rattle.job.specs.Job.{exponent, isAllowed}
@@ -21,7 +21,7 @@ use Rattle.job.specs.declared.Platform.{Platform}
 use Rattle.marks.specs.Pays.{paysOf}
 use Rattle.costs.specs.Costs.{vAt, cmAt, cdAt, rdAt, rmAt, verifyPaid, savesPaid}
 use Rattle.costs.specs.Energy.{plain, ProductsFit}
-use Rattle.costs.specs.Working.Factors.{factorsOf, energyFactorsOf, ReadyForFactors, ReadyForEnergy}
+use Rattle.costs.specs.Working.Factors.{factorsOf, energyFactorsOf, ReadyForFactors, ReadyForEnergy, FactorsIfAllowed}
 use Rattle.costs.specs.declared.Powers.{Powers}
 
 -- a cost that a test may leave out
@@ -135,6 +135,15 @@ module _ {powers : Powers} {W v : ℕ} (ready : ReadyForEnergy powers W v) where
         both = G-sum ys yf within;
         cap = G-cap (ys + yf);
       }
+
+-- past the exponent limit G(y_s + y_f) is 0, and the other factors do not count
+module _ (powers : Powers) (p : Platform) (W v : ℕ) (h : exponentLimit < exponent (p .silent) W + exponent (p .failstop) W) where
+  pub both-none : energyFactorsOf powers p W v .both ≡ 0
+  unfolding energyFactorsOf
+  both-none = G-none _ h
+
+  pub none-allowed : FactorsIfAllowed (energyFactorsOf powers p W v) (record { work = 0; silent = 0; both = 0 })
+  none-allowed = record { both = sym both-none; silent = omega arith; all = λ n. absurd (n refl) }
 
 -- by the powers 1 and 1 the factors are those of the time
 pub plain-factors : (p : Platform) (W v : ℕ) → energyFactorsOf plain p W v ≡ factorsOf p W v

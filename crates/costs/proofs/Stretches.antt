@@ -10,7 +10,6 @@ use borrow.Author.Tests.{leb-false, eq-eqb, ne-eqb}
 use lib.Dec.{eqb}
 use Rattle.units.specs.Unit.{unit}
 use Rattle.units.proofs.Laws.{up-mono}
-use Rattle.growth.proofs.Laws.{G-none}
 use Rattle.chain.specs.declared.Factors.{Factors}
 use Rattle.chain.specs.Working.Factors.{stretchOf, Factored}
 use Rattle.chain.specs.Working.Same.{Same}
@@ -24,7 +23,7 @@ use Rattle.costs.specs.Stretch.{S, chainOf}
 use Rattle.costs.specs.Energy.{energyS, energyChain, plain, ProductsFit}
 use Rattle.costs.specs.Working.Factors.{factorsOf, factorsAt, energyFactorsOf, energyFactorsAt, ReadyForFactors, ReadyForEnergy}
 use Rattle.costs.specs.declared.Powers.{Powers}
-use Rattle.costs.proofs.Ranges.{vAt-range, plain-products, energy-bounded, plain-factors}
+use Rattle.costs.proofs.Ranges.{vAt-range, plain-products, energy-bounded, both-none, plain-factors}
 
 pub S-factors : (job : Job) (u v m d Q' M' : ℕ)
     → S job u v m d Q' M' ≡ stretchOf (factorsAt job u v) (record { disk = rdAt job d + M'; memory = rmAt job m }) Q'
@@ -54,8 +53,8 @@ module _ (powers : Powers) (job : Job) (sound : Sound job) (products : ProductsF
   allowed-factored e = energy-bounded energy-ready (job .platform) e
 
   not-allowed : stretchAllowed job u v ≡ false → energyFactorsAt powers job u v .both ≡ 0
-  unfolding stretchAllowed isAllowed energyFactorsOf
-  not-allowed e = G-none _ (leb-false _ _ e)
+  unfolding stretchAllowed isAllowed
+  not-allowed e = both-none _ _ _ _ (leb-false _ _ e)
 
   pub energy-decides : not (eqb (energyFactorsAt powers job u v .both) 0) ≡ stretchAllowed job u v
   energy-decides = by (stretchAllowed job u v) refl

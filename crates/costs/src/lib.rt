@@ -6,12 +6,13 @@ ghost use Prim.Native.Nat.{_≤_};
 ghost use Rattle.costs.specs.Costs.{vAt, cmAt, cdAt, rdAt, rmAt, verifyPaid, savesPaid};
 ghost use Rattle.costs.specs.Energy.{plain};
 ghost use Rattle.costs.specs.Working.Costs.{CostIs};
-ghost use Rattle.costs.specs.Working.Factors.{factorsOf, energyFactorsOf, ReadyForFactors, ReadyForEnergy};
+ghost use Rattle.costs.specs.Working.Factors.{factorsOf, energyFactorsOf, ReadyForFactors, ReadyForEnergy, FactorsIfAllowed};
 use chain::Factors;
 use job::Job;
 use job::Platform;
 use job::stretch::exponent_of;
 use marks::payments;
+use units::EXPONENT_LIMIT;
 
 // V at v.
 pub fn v_at(job: Job, v: usize) -> u64
@@ -104,7 +105,7 @@ impl Powers {
 
 // The growth sums of a stretch of this weight, whose far end costs `v` to verify, and its work in energy. The exponents have the plain weight. The weight, by
 // itself and times the power, and the cost times the power are within the limit of costs (checks 7 and 29), and with the caps of G and H each product is below 2^64.
-pub fn energy_factors(powers: Powers, p: Platform, weight: u64, v: u64) -> Factors
+fn energy_factors(powers: Powers, p: Platform, weight: u64, v: u64) -> Factors
     requires { ⌜ ReadyForEnergy powers weight v ⌝ }
     ensures { λ r. ⌜ r ≡ energyFactorsOf powers p weight v ⌝ }
 {
@@ -126,4 +127,19 @@ pub fn stretch_factors(p: Platform, weight: u64, v: u64) -> Factors
     ensures { λ r. ⌜ r ≡ factorsOf p weight v ⌝ }
 {
     energy_factors(Powers::plain(), p, weight, v)
+}
+
+// The factors in energy of a stretch that is allowed. Of any other only `both` is read, which is 0: no growth sum is worked out.
+pub fn factors_if_allowed(powers: Powers, p: Platform, weight: u64, v: u64) -> Factors
+    requires { ⌜ ReadyForEnergy powers weight v ⌝ }
+    ensures { λ r. ⌜ FactorsIfAllowed (energyFactorsOf powers p weight v) r ⌝ }
+{
+    if EXPONENT_LIMIT < exponent_of(p.silent, weight) + exponent_of(p.failstop, weight) {
+        return Factors {
+            work: 0,
+            silent: 0,
+            both: 0,
+        };
+    }
+    energy_factors(powers, p, weight, v)
 }

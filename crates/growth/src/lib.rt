@@ -10,7 +10,7 @@ use units::UNIT;
 const LAST_TERM: u64 = 32;
 
 // How many terms are added apart from the others. Their divisors are constants in compiled code, which is quicker.
-const FIRST_TERMS: u64 = 5;
+const FIRST_TERMS: u64 = 10;
 
 // 1, in the units of 2^-30 that terms are carried in.
 const TERM_UNIT: u64 = 1 << 30;

@@ -20,6 +20,7 @@ use Rattle.chain.specs.Chain.{Chain}
 use Rattle.chain.specs.Time.{Marks, D}
 use Rattle.chain.specs.Plan.{Allowed}
 use Rattle.chain.proofs.Agree.{D-agree, allowed-agree}
+use Rattle.chain.proofs.Same.{same-allowed}
 use Rattle.job.specs.Job.{taskLimit}
 use Rattle.job.specs.declared.Job.{Job}
 use Rattle.sheet.specs.Layout.{tasks}
@@ -246,8 +247,8 @@ module _ (s : List ℕ) where
         short = λ z h. p .short (plain-refusal ∙ z) h;
         plans =
             λ z h.
-            plans-same (jobOf s .tasks) (energyChain plain (jobOf s)) (chainOf (jobOf s)) (plain-same (jobOf s .tasks) (jobOf s)) (sheet-sound s z .some-task)
-            before after r (p .plans (plain-refusal ∙ z) h);
+            plans-same (jobOf s .tasks) (energyChain plain (jobOf s)) (chainOf (jobOf s))
+            (same-allowed _ _ _ (plain-same (jobOf s .tasks) (jobOf s))) (sheet-sound s z .some-task) before after r (p .plans (plain-refusal ∙ z) h);
       }
 
   -- the powers 1 and 1 give exactly the time plan: number, figure and buffer

@@ -7,11 +7,12 @@ use mathlib.Core.Logic.{inl, inr, _≢_}
 use mathlib.Core.List.{List}
 use native.Mathlib.Decide.{ℕ-discrete}
 use native.Mathlib.Omega.{arith}
+use borrow.Author.Tests.{eqb-false, not-true}
 use lib.ListN.{length, getD, set, length-set}
 use lib.Seq.{getD-set-same, getD-set-other}
 use Rattle.growth.proofs.Laws.{G-cap}
 use Rattle.chain.specs.Working.Factors.{Factored}
-use Rattle.chain.specs.Working.Same.{Same}
+use Rattle.chain.specs.Working.Same.{SameAllowed}
 use Rattle.chain.specs.declared.Factors.{Factors}
 use Rattle.job.specs.Job.{total, weightAt, positions, between, exponent}
 use Rattle.job.specs.Working.Sound.{Sound}
@@ -20,11 +21,11 @@ use Rattle.job.specs.declared.Platform.{Platform}
 use Rattle.job.proofs.Weights.{total-more, total-mono}
 use Rattle.costs.specs.Costs.{vAt, cmAt, cdAt, rdAt, rmAt}
 use Rattle.costs.specs.Energy.{energyChain, ProductsFit}
-use Rattle.costs.specs.Working.Factors.{energyFactorsOf, energyFactorsAt, ReadyForEnergy}
+use Rattle.costs.specs.Working.Factors.{energyFactorsOf, energyFactorsAt, ReadyForEnergy, FactorsIfAllowed}
 use Rattle.costs.specs.declared.Powers.{Powers}
 use Rattle.costs.proofs.Ranges.{cm-energy, cd-energy, rd-energy, rm-energy}
 use Rattle.costs.proofs.Stretches.{energy-factors, energy-ready, energy-decides, energy-factored}
-use Rattle.search.specs.Working.Table.{tableLength, cmStart, cdStart, rdStart, rmStart, entryOf, column, chainIn, putPair, putCosts, PairFits, Packable, Bounded}
+use Rattle.search.specs.Working.Table.{tableLength, cmStart, cdStart, rdStart, rmStart, entryOf, column, chainIn, putPair, putCosts, PairFits, Packable, Bounded, Firsts, FirstsPut}
 use Rattle.search.specs.declared.table.Costs.{Costs}
 use Rattle.search.proofs.Tables.{
   length-putPair,
@@ -40,6 +41,8 @@ use Rattle.search.proofs.Tables.{
   putCosts-cd-apart,
   putCosts-rd-apart,
   putCosts-rm-apart,
+  firsts-entry,
+  firsts-column,
 }
 use Rattle.planning.specs.Working.Fill.{Totals, EarlierPair, PairsTo, TableTo, TableOf}
 
@@ -75,12 +78,12 @@ totals-between powers job sound products sums h u v a b =
     }
 
 -- growth sums fit 32 bits
-pub factors-packable : (powers : Powers) (p : Platform) (W v : ℕ) → Packable (energyFactorsOf powers p W v)
+pub factors-packable : (powers : Powers) (p : Platform) (W v : ℕ) (f : Factors) → FactorsIfAllowed (energyFactorsOf powers p W v) f → Packable f
 unfolding energyFactorsOf
-factors-packable powers p W v =
+factors-packable powers p W v f h =
     record {
-      silent = omega (arith, G-cap (exponent (p .silent) W));
-      both = omega (arith, G-cap (exponent (p .silent) W + exponent (p .failstop) W));
+      silent = omega (arith, h .silent, G-cap (exponent (p .silent) W));
+      both = omega (arith, h .both, G-cap (exponent (p .silent) W + exponent (p .failstop) W));
     }
 
 pub pairs-none : (powers : Powers) (job : Job) (t : List ℕ) → length t ≡ tableLength → PairsTo powers job 0 1 t
@@ -92,7 +95,8 @@ pairs-none powers job t e = record { long = e; pairs = λ x y h k l. absurd (non
 
 module _ (powers : Powers) (job : Job) (u v : ℕ) (t : List ℕ) (h : PairsTo powers job u v t) where
   -- the factors of the next pair
-  pub pairs-more : u < v → v ≤ job .tasks → job .tasks < positions → (f : Factors) → f ≡ energyFactorsAt powers job u v → PairsTo powers job u (v + 1) (putPair t u v f)
+  pub pairs-more : u < v → v ≤ job .tasks → job .tasks < positions → (f : Factors) → FactorsIfAllowed (energyFactorsAt powers job u v) f
+      → PairsTo powers job u (v + 1) (putPair t u v f)
   pairs-more k l few f e =
       record {
         long = length-putPair t u v f fits ∙ h .long;
@@ -106,11 +110,13 @@ module _ (powers : Powers) (job : Job) (u v : ℕ) (t : List ℕ) (h : PairsTo p
       earlier x y n (inl z) = inl z
       earlier x y n (inr z) = inr (z .0, omega (arith, z .1, n (z .0)))
 
-      other : (x y : ℕ) → x < y → y ≤ job .tasks → EarlierPair x y u (v + 1) → (x ≡ u → y ≡ v → ⊥) → entryOf (putPair t u v f) x y ≡ energyFactorsAt powers job x y
-      other x y a b c n = putPair-apart t u v f fits x y (record { order = a; few = omega arith }) n ∙ h .pairs x y a b (earlier x y n c)
+      other : (x y : ℕ) → x < y → y ≤ job .tasks → EarlierPair x y u (v + 1) → (x ≡ u → y ≡ v → ⊥)
+          → FactorsIfAllowed (energyFactorsAt powers job x y) (entryOf (putPair t u v f) x y)
+      other x y a b c n = rw (putPair-apart t u v f fits x y (record { order = a; few = omega arith }) n) (h .pairs x y a b (earlier x y n c))
 
-      at : (x y : ℕ) → x < y → y ≤ job .tasks → EarlierPair x y u (v + 1) → Dec (x ≡ u) → Dec (y ≡ v) → entryOf (putPair t u v f) x y ≡ energyFactorsAt powers job x y
-      at x y a b c (yes p) (yes q) = rw (p, q) (putPair-here t u v f fits ∙ e)
+      at : (x y : ℕ) → x < y → y ≤ job .tasks → EarlierPair x y u (v + 1) → Dec (x ≡ u) → Dec (y ≡ v)
+          → FactorsIfAllowed (energyFactorsAt powers job x y) (entryOf (putPair t u v f) x y)
+      at x y a b c (yes p) (yes q) = rw (p, q, putPair-here t u v f fits) e
       at x y a b c (yes p) (no q) = other x y a b c (λ _ z. q z)
       at x y a b c (no p) q = other x y a b c (λ z _. p z)
 
@@ -163,17 +169,32 @@ module _ (powers : Powers) (job : Job) (k : ℕ) (t : List ℕ) (h : TableTo pow
   table-more =
       record {
         long = length-putCosts t k c ∙ h .long;
-        pairs = λ x y a b. putCosts-pair t k c x y (record { order = a; few = omega arith }) ∙ h .pairs x y a b;
+        pairs = λ x y a b. rw (putCosts-pair t k c x y (record { order = a; few = omega arith })) (h .pairs x y a b);
         cm = column-more cmStart (λ v. powers .saving * cmAt job v) (h .cm) (putCosts-cm t k c (h .long) room ∙ is .cm) (putCosts-cm-apart t k c (h .long) room);
         cd = column-more cdStart (λ v. powers .saving * cdAt job v) (h .cd) (putCosts-cd t k c (h .long) room ∙ is .cd) (putCosts-cd-apart t k c (h .long) room);
         rd = column-more rdStart (λ v. powers .saving * rdAt job v) (h .rd) (putCosts-rd t k c (h .long) room ∙ is .rd) (putCosts-rd-apart t k c (h .long) room);
         rm = column-more rmStart (λ v. powers .saving * rmAt job v) (h .rm) (putCosts-rm t k c (h .long) room ∙ is .rm) (putCosts-rm-apart t k c (h .long) room);
       }
 
+-- the firsts change nothing else
+pub table-firsts : (powers : Powers) (job : Job) (k : ℕ) (t t' : List ℕ) → job .tasks < positions → k ≤ positions → TableTo powers job k t → FirstsPut t k t'
+    → TableTo powers job k t'
+table-firsts powers job k t t' few room h put =
+    record {
+      long = put .long ∙ h .long;
+      pairs = λ x y a b. rw (firsts-entry t k t' put x y (record { order = a; few = omega arith })) (h .pairs x y a b);
+      cm = λ v l. firsts-column t k t' put cmStart (omega arith) v (omega arith) ∙ h .cm v l;
+      cd = λ v l. firsts-column t k t' put cdStart (omega arith) v (omega arith) ∙ h .cd v l;
+      rd = λ v l. firsts-column t k t' put rdStart (omega arith) v (omega arith) ∙ h .rd v l;
+      rm = λ v l. firsts-column t k t' put rmStart (omega arith) v (omega arith) ∙ h .rm v l;
+    }
+
 -- a full table holds the job's chain in energy
-module _ (powers : Powers) (job : Job) (sound : Sound job) (products : ProductsFit powers job) (t : List ℕ) (full : TableTo powers job (job .tasks + 1) t) where
+module _ (powers : Powers) (job : Job) (sound : Sound job) (products : ProductsFit powers job) (t : List ℕ) (full : TableTo powers job (job .tasks + 1) t)
+    (firsts : Firsts (job .tasks) t) where
   factored-if : (u v : ℕ) → u < v → v ≤ job .tasks → entryOf t u v .both ≢ 0 → Factored (entryOf t u v)
-  factored-if u v h l = rw (full .pairs u v h l) (energy-factored powers job sound products u v l)
+  factored-if u v h l n =
+      let pair = full .pairs u v h l in rw (pair .all n) (energy-factored powers job sound products u v l (λ z. n (pair .both ∙ z)))
 
   table-bounded : Bounded (job .tasks) t
   table-bounded =
@@ -185,16 +206,17 @@ module _ (powers : Powers) (job : Job) (sound : Sound job) (products : ProductsF
         cd = λ v h. rw (full .cd v (omega arith)) (cd-energy powers job products v);
         rd = λ v h. rw (full .rd v (omega arith)) (omega (arith, rd-energy powers job products v));
         rm = λ v h. rw (full .rm v (omega arith)) (rm-energy powers job products v);
+        firsts = firsts;
       }
 
-  table-same : Same (job .tasks) (chainIn t) (energyChain powers job)
+  table-same : SameAllowed (job .tasks) (chainIn t) (energyChain powers job)
   unfolding chainIn energyChain
   table-same =
       record {
-        allowed = λ u v a b. rw (full .pairs u v a b) (energy-decides powers job sound products u v b);
+        allowed = λ u v a b. rw (full .pairs u v a b .both) (energy-decides powers job sound products u v b);
         stretch =
-            λ u v m d Q' M' x y a b.
-            rw (energy-factors powers job u v m d Q' M', full .pairs u v a b, full .rd d (omega arith), full .rm m (omega arith));
+            λ u v m d Q' M' x y a b e.
+            rw (energy-factors powers job u v m d Q' M', full .pairs u v a b .all (eqb-false _ _ (not-true _ e)), full .rd d (omega arith), full .rm m (omega arith));
         cm = λ v a b. full .cm v (omega arith);
         cd = λ v a b. full .cd v (omega arith);
       }

@@ -4,25 +4,23 @@ use Prim.Native.Nat.{ℕ, _-_, _≤_, _<_}
 use mathlib.Core.Path.{_≡_, refl, sym, _∙_}
 use mathlib.Core.List.{List, _++_}
 use native.Mathlib.Omega.{arith}
-use lib.ListN.{length, getD, take, drop}
+use lib.ListN.{length, take, drop}
 use lib.Seq.{getD-take}
 use Rattle.units.specs.Limits.{none}
 use Rattle.refusals.specs.Numbers
 use Rattle.refusals.specs.Answers.{refused, accepted}
 use Rattle.refusals.specs.declared.Answer.{Answer}
 use Rattle.chain.specs.Chain.{Chain}
-use Rattle.chain.specs.Plan.{IsPlan}
-use Rattle.chain.specs.Working.Same.{Same}
-use Rattle.chain.specs.Working.Search.{Rising, toDisk, leastD, planMarks}
+use Rattle.chain.specs.Time.{Marks}
+use Rattle.chain.specs.Plan.{Allowed, IsPlan}
+use Rattle.chain.specs.Working.Same.{SameAllowed}
+use Rattle.chain.specs.Working.Search.{Rising, leastD, planMarks}
 use Rattle.chain.specs.Working.Walk.{PlannedMarks}
 use Rattle.chain.proofs.Agree.{plan-agree}
 use Rattle.chain.proofs.Same.{D-same, allowed-same, same-sym, plan-same}
 use Rattle.chain.proofs.Theorems.{plan-is-least, too-slow-exactly}
 use Rattle.marks.specs.Marks.{marksOf}
 use Rattle.marks.proofs.Stretches.{mark-at}
-use Rattle.search.specs.Working.Rows.{Filled}
-use Rattle.search.specs.Working.Table.{chainIn}
-use Rattle.search.specs.Working.Walk.{DiskBacks}
 use Rattle.planning.specs.Promise.{AllSlow, Planned, PlansChain, PlansChecked}
 use Rattle.planning.proofs.Buffers.{written-front, written-rest, written-length}
 
@@ -74,22 +72,22 @@ module _ (c : Chain) (rises : Rising c) (n : ℕ) (h : 0 < n) where
           plan-agree (planMarks c none n) (marksOf (take n after)) c n least h same
           (rw is (plan-is-least c rises none n h (omega arith)))
 
--- chains that cost the same have the same answer
-pub plans-same : (n : ℕ) (c c' : Chain) → Same n c c' → 0 < n → (before after : List ℕ) (r : Answer) → PlansChain c n before after r → PlansChain c' n before after r
+-- chains that cost the same over the allowed stretches have the same answer
+pub plans-same : (n : ℕ) (c c' : Chain) → SameAllowed n c c' → 0 < n → (before after : List ℕ) (r : Answer) → PlansChain c n before after r → PlansChain c' n before after r
 plans-same n c c' same h before after r p =
     record {
       slow = λ a. p .slow (slow a);
       planned = λ a. again (p .planned (λ b. a (fast b)));
     }
   where
-    back : Same n c' c
-    back = same-sym n c c' same
+    back : (g : Marks) → Allowed c' n g → Allowed c n g
+    back g s = allowed-same n c' c (same-sym n c c' same) g s
 
     slow : AllSlow c' n → AllSlow c n
-    slow a g s = rw (D-same n c c' same g h) (a g (allowed-same n c c' same g s))
+    slow a g s = rw (D-same n c c' same g s h) (a g (allowed-same n c c' same g s))
 
     fast : AllSlow c n → AllSlow c' n
-    fast a g s = rw (← (D-same n c c' same g h)) (a g (allowed-same n c' c back g s))
+    fast a g s = rw (← (D-same n c c' same g (back g s) h)) (a g (back g s))
 
     again : Planned c n before after r → Planned c' n before after r
     again q =
@@ -126,11 +124,3 @@ module _ (refusal : ℕ) (c : Chain) (n : ℕ) (before : List ℕ) where
         short = λ _ l. absurd (omega arith);
         plans = λ _ _. p;
       }
-
--- the disk row's last entry is the least time, and its positions before are the plan's
-pub row-least : (t : List ℕ) (n : ℕ) (time backs : List ℕ) → Filled none 0 (toDisk (chainIn t) none) n time backs → getD time n 0 ≡ leastD (chainIn t) none n
-unfolding leastD
-row-least t n time backs f = f .times n (omega arith)
-
-pub row-backs : (t : List ℕ) (n : ℕ) (time backs : List ℕ) → Filled none 0 (toDisk (chainIn t) none) n time backs → DiskBacks t n backs
-row-backs t n time backs f = record { long = f .backs-long; backs = f .backs }

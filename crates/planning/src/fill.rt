@@ -1,12 +1,12 @@
-// Fills the search's table with the chain of a job in energy, which by the powers 1 and 1 is its time: the factors of each stretch, a near end and a far end,
-// then the costs of each position.
+// Fills the search's table with the chain of a job in energy, which by the powers 1 and 1 is its time: the factors of each stretch that is allowed, a near end
+// and a far end, then the costs of each position.
 ghost use Prim.Native.Nat.{_+_};
 ghost use Rattle.job.specs.Working.Sound.{Sound};
 ghost use Rattle.planning.specs.Working.Fill.{Totals, PairsTo, TableTo, TableOf, ReadyForPairs, ReadyForCosts, ReadyToFill};
 use costs::Powers;
 use costs::cd_at;
 use costs::cm_at;
-use costs::energy_factors;
+use costs::factors_if_allowed;
 use costs::rd_at;
 use costs::rm_at;
 use costs::v_at;
@@ -14,6 +14,7 @@ use job::Job;
 use job::POSITIONS;
 use search::table::Costs;
 use search::table::put_costs;
+use search::table::put_firsts;
 use search::table::put_pair;
 
 // The weight up to each position.
@@ -42,7 +43,7 @@ fn fill_pairs(t: &mut [u32], powers: Powers, job: Job, sums: &[u64], u: usize)
     let platform = job.platform;
     let mut v = u + 1;
     while v <= n {
-        let f = energy_factors(powers, platform, sums[v] - sums[u], v_at(job, v));
+        let f = factors_if_allowed(powers, platform, sums[v] - sums[u], v_at(job, v));
         put_pair(t, u, v, f);
         v += 1;
     }
@@ -81,4 +82,5 @@ pub fn fill(t: &mut [u32], powers: Powers, job: Job)
         u += 1;
     }
     fill_costs(t, powers, job);
+    put_firsts(t, n);
 }

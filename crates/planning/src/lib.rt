@@ -8,14 +8,15 @@ ghost use Rattle.planning.specs.Promise.{Plans, PlansChain};
 ghost use Rattle.planning.specs.Working.Ready.{ReadyToCopy, ReadyForChain, ReadyForPowers};
 use costs::Powers;
 use job::Job;
-use job::POSITIONS;
 use job::TASK_LIMIT;
 use refusals::Answer;
 use refusals::SHORT_BUFFER;
 use refusals::TOO_SLOW;
 use refusals::accepted;
 use refusals::refused;
-use search::rows::disk_row;
+use search::bounding::fill_bounds;
+use search::bounds::BOUNDS_LENGTH;
+use search::find::find;
 use search::table::TABLE_LENGTH;
 use search::walk::plan_marks;
 use sheet::read::read_job;
@@ -43,14 +44,16 @@ fn plan_chain(t: &[u32], n: usize, buffer: &mut [u8]) -> Answer
     requires { ⌜ ReadyForChain (now t) n (now buffer) ⌝ }
     ensures { λ r. ⌜ PlansChain (chainIn (now (t .entry))) n (now (buffer .entry)) (now (buffer .exit)) r ⌝ }
 {
-    let mut time = [NONE; POSITIONS];
-    let mut backs = [0usize; POSITIONS];
-    disk_row(&mut time, &mut backs, t, n);
+    let mut bounds = [0u64; BOUNDS_LENGTH];
+    fill_bounds(&mut bounds, t, n);
+    let disks = find(t, &bounds, n);
+    let time = disks.time;
+    let backs = disks.backs;
     let least = time[n];
     if NONE <= least {
         return refused(TOO_SLOW);
     }
-    let marks = plan_marks(t, &backs, n);
+    let marks = plan_marks(t, &bounds, &time, &backs, n);
     copy_marks(buffer, marks, n);
     accepted(least)
 }

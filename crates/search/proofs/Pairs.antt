@@ -1,5 +1,5 @@
--- Where pairs of positions stand: no two pairs have the same place, and all places lie within the table. With later = P - 1 - u, the pairs of the near end u
--- fill the places from triangle later to triangle (later + 1). Assumes nothing.
+-- Where pairs of positions stand: no two pairs have the same place, and all places lie within the table. The pairs of the far end v fill the places from
+-- triangle v to triangle (v + 1). Assumes nothing.
 use Prim.Native.Nat.{ℕ, zero, suc, _+_, _-_, _*_, _/_, _≤_, _<_}
 use mathlib.Core.Path.{_≡_, refl}
 use Rattle.chain.proofs.Products.{capped}
@@ -35,8 +35,7 @@ pairs-are = refl
 
 pub pair-within : (u v : ℕ) → IsPair u v → pairIndex u v < pairs
 unfolding pairIndex
-pair-within u v p =
-    omega (arith, p .order, p .few, triangle-mono (positions - 1 - u) positions (omega (arith, p .order, p .few)), pairs-are)
+pair-within u v p = omega (arith, p .order, triangle-mono v positions (p .few), pairs-are)
 
 place-apart : (a b i j : ℕ) → i < a → j < b → triangle a + i ≡ triangle b + j → (a ≡ b) × (i ≡ j)
 place-apart a b i j h k e = go (decLt a b) (decLt b a)
@@ -46,30 +45,17 @@ place-apart a b i j h k e = go (decLt a b) (decLt b a)
     go (no l) (yes m) = absurd (omega (arith, triangle-mono b a m))
     go (no l) (no m) = let z : a ≡ b = omega arith in (z, omega (arith, rw z at e))
 
-pair-later : (u v : ℕ) → IsPair u v → v - u - 1 < positions - 1 - u
-pair-later u v p = omega (arith, p .order, p .few)
-
-near-same : (u x : ℕ) → u < positions → x < positions → positions - 1 - u ≡ positions - 1 - x → u ≡ x
-near-same u x h k z = omega arith
-
-far-same : (u v y : ℕ) → u < v → u < y → v - u - 1 ≡ y - u - 1 → v ≡ y
-far-same u v y h k d = omega arith
-
-pair-few : (u v : ℕ) → IsPair u v → u < positions
-pair-few u v p = omega (arith, p .order, p .few)
-
 -- two pairs at the same place are one pair
 pub pair-apart : (u v x y : ℕ) → IsPair u v → IsPair x y → pairIndex u v ≡ pairIndex x y → (u ≡ x) × (v ≡ y)
 unfolding pairIndex
 pair-apart u v x y p q e =
-    let r = place-apart (positions - 1 - u) (positions - 1 - x) (v - u - 1) (y - x - 1) (pair-later u v p) (pair-later x y q) e in
-    let z : u ≡ x = near-same u x (pair-few u v p) (pair-few x y q) (r .0) in
-    (z, far-same u v y (p .order) (rw z (q .order)) (rw (← z) at (r .1)))
+    let r = place-apart v y u x (p .order) (q .order) e in
+    (r .1, r .0)
 
 -- the code's own place of a pair
-pub pair-index-is : (u v : ℕ) → IsPair u v → (positions - 1 - u) * (positions - 1 - u - 1) / 2 + (v - u - 1) ≡ pairIndex u v
+pub pair-index-is : (u v : ℕ) → IsPair u v → v * (v - 1) / 2 + u ≡ pairIndex u v
 unfolding pairIndex
-pair-index-is u v p = rw (triangle-is (positions - 1 - u) (omega (arith, pair-later u v p)))
+pair-index-is u v p = rw (triangle-is v (omega (arith, p .order)))
 
-pub later-product : (u v : ℕ) → IsPair u v → (positions - 1 - u) * (positions - 1 - u - 1) ≤ positions * positions
-later-product u v p = capped positions positions (omega arith) (omega arith)
+pub far-product : (u v : ℕ) → IsPair u v → v * (v - 1) ≤ positions * positions
+far-product u v p = capped positions positions (omega (arith, p .few)) (omega (arith, p .few))

@@ -3,17 +3,13 @@ use Prim.Native.Nat.{ℕ, zero, suc, _+_, _-_, _*_, _/_, _%_, _≤_, _<_}
 use mathlib.Core.Path.{_≡_, refl, _∙_}
 use mathlib.Core.Logic.{_≢_, _⊎_, inl, inr}
 use mathlib.Core.List.{List, [], _∷_}
-use native.Mathlib.Nat.{mul-le-mul-left}
-use native.Mathlib.Decide.{decLt}
+use native.Mathlib.Decide.{decLt, ℕ-discrete}
 use native.Mathlib.Omega.{arith}
 use borrow.Author.Tests.{eq-eqb, ne-eqb}
 use lib.ListN.{length, getD, set, take, drop, length-set, length-drop}
 use lib.Seq.{getD-set-same, getD-set-other, getD-take, getD-drop, length-take-le}
-use Rattle.units.specs.Unit.{unit}
 use Rattle.units.specs.Limits.{none}
-use Rattle.units.proofs.Laws.{up-mono}
 use Rattle.chain.specs.Working.Factors.{stretchOf}
-use Rattle.chain.specs.Working.Search.{Rising}
 use Rattle.chain.specs.declared.Factors.{Factors}
 use Rattle.chain.specs.declared.Recoveries.{Recoveries}
 use Rattle.job.specs.Job.{positions}
@@ -30,7 +26,6 @@ use Rattle.search.specs.Working.Table.{
   tableLength,
   entryOf,
   column,
-  chainIn,
   arrivalAt,
   IsPair,
   PairFits,
@@ -38,6 +33,10 @@ use Rattle.search.specs.Working.Table.{
   putPair,
   putCosts,
   Bounded,
+  firstStart,
+  Firsts,
+  FirstIs,
+  FirstsPut,
 }
 use Rattle.search.specs.declared.table.Costs.{Costs}
 use Rattle.search.proofs.Pairs.{pair-within, pair-apart}
@@ -222,15 +221,8 @@ bounded-less n v t h b =
       cd = λ x k. b .cd x (omega arith);
       rd = λ x k. b .rd x (omega arith);
       rm = λ x k. b .rm x (omega arith);
+      firsts = record { within = λ x k. b .firsts .within x (omega arith); none-before = λ u x k l. b .firsts .none-before u x k (omega arith) };
     }
-
--- S of the table's chain rises with Q' and M'
-pub chainIn-rises : (t : List ℕ) → Rising (chainIn t)
-unfolding chainIn stretchOf
-chainIn-rises t u v m d s q a b h l =
-    let disk : column rdStart t d + a ≤ column rdStart t d + b = omega arith in
-    let f : Factors = entryOf t u v in
-    omega (arith, up-mono (mul-le-mul-left (f .both - f .silent) disk), up-mono (mul-le-mul-left (f .both - unit) h))
 
 -- an arrival by the factors f that the table has for the stretch, where it is not allowed and where it is
 module _ (t : List ℕ) (r : Recoveries) (u q v : ℕ) (f : Factors) (is : f ≡ entryOf t u v) where
@@ -241,3 +233,69 @@ module _ (t : List ℕ) (r : Recoveries) (u q v : ℕ) (f : Factors) (is : f ≡
   pub arrival-some : f .both ≢ 0 → (s : ℕ) → s ≡ stretchOf f r q → q + s ≡ arrivalAt t r u q v
   unfolding arrivalAt
   arrival-some e s h = rw (← is, ne-eqb (f .both) 0 e, h)
+
+-- a stretch from before the first of v is not allowed
+pub arrival-before : (t : List ℕ) (r : Recoveries) (u q v : ℕ) → entryOf t u v .both ≡ 0 → arrivalAt t r u q v ≡ none
+unfolding arrivalAt
+arrival-before t r u q v e = rw (eq-eqb (entryOf t u v .both) 0 e)
+
+-- an entry of pairs or costs stands before the column of firsts
+pair-before : (x y k : ℕ) → IsPair x y → k < pairEntries → pairAt x y + k < firstStart
+pair-before x y k p h = omega (arith, pair-within x y p)
+
+module _ (t : List ℕ) (e : ℕ) (t' : List ℕ) (put : FirstsPut t e t') where
+  pub firsts-entry : (x y : ℕ) → IsPair x y → entryOf t' x y ≡ entryOf t x y
+  unfolding entryOf
+  firsts-entry x y p =
+      let first : getD t' (pairAt x y) 0 ≡ getD t (pairAt x y) 0 = put .others (pairAt x y) (omega (arith, pair-before x y 0 p (omega arith))) in
+      rw (
+        first,
+        put .others (pairAt x y + 1) (pair-before x y 1 p (omega arith)),
+        put .others (pairAt x y + 2) (pair-before x y 2 p (omega arith)),
+        put .others (pairAt x y + 3) (pair-before x y 3 p (omega arith)),
+      )
+
+  pub firsts-column : (start : ℕ) → start + positions ≤ firstStart → (v : ℕ) → v < positions → column start t' v ≡ column start t v
+  unfolding column
+  firsts-column start h v l = put .others (start + v) (omega arith)
+
+  -- the firsts of the table with its column of firsts
+  pub firsts-put : (n : ℕ) → n < e → n < positions → Firsts n t'
+  firsts-put n h few =
+      record {
+        within = λ v l. put .firsts v (omega arith) .within;
+        none-before = λ u v k l.
+            let f = put .firsts v (omega arith) in
+            rw (firsts-entry u v (record { order = omega (arith, f .within); few = omega arith })) (f .none-before u k);
+      }
+
+pub firsts-none : (t : List ℕ) → FirstsPut t 0 t
+firsts-none t = record { long = refl; others = λ i h. refl; firsts = λ v h. absurd (omega arith) }
+
+pub firsts-more : (t : List ℕ) (v : ℕ) (t' : List ℕ) (r : ℕ) → FirstsPut t v t' → length t ≡ tableLength → v < positions → FirstIs t' v r → FirstsPut t (v + 1) (set t' (firstStart + v) r)
+unfolding column
+firsts-more t v t' r put long few is =
+    record {
+      long = length-set t' (firstStart + v) r ∙ put .long;
+      others = λ i h. getD-set-other t' (firstStart + v) i r 0 (λ e. omega arith) ∙ put .others i h;
+      firsts = λ w h. at w h (ℕ-discrete w v);
+    }
+  where
+    at : (w : ℕ) → w < v + 1 → Dec (w ≡ v) → FirstIs t w (column firstStart (set t' (firstStart + v) r) w)
+    at w h (yes e) =
+        rw (e, getD-set-same t' (firstStart + v) r 0 (omega (arith, put .long)))
+        (record {
+          within = is .within;
+          none-before = λ u l. rw (← (firsts-entry t v t' put u v (record { order = omega (arith, is .within); few = few }))) (is .none-before u l);
+        })
+    at w h (no e) = rw (getD-set-other t' (firstStart + v) (firstStart + w) r 0 (λ z. e (omega arith))) (put .firsts w (omega arith))
+
+pub first-none : (t : List ℕ) (v : ℕ) → FirstIs t v 0
+first-none t v = record { within = omega arith; none-before = λ u h. absurd (omega arith) }
+
+pub first-more : (t : List ℕ) (v u : ℕ) → FirstIs t v u → u < v → entryOf t u v .both ≡ 0 → FirstIs t v (u + 1)
+first-more t v u is h e = record { within = omega arith; none-before = λ w l. go w l (ℕ-discrete w u) }
+  where
+    go : (w : ℕ) → w < u + 1 → Dec (w ≡ u) → entryOf t w v .both ≡ 0
+    go w l (yes i) = rw i e
+    go w l (no i) = is .none-before w (omega arith)

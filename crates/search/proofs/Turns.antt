@@ -1,133 +1,165 @@
--- A search fills its rows forward: once every position backs k has offered its arrivals, the entry at v is the least over the positions backs k and v.
--- So the entry at k itself is final when its turn comes, and after the last turn every entry is. Assumes nothing.
-use Prim.Native.Nat.{ℕ, zero, suc, _≤_, _<_, _+_, min}
+-- A row of copies is filled forward. When it is k's turn, no entry is too low, and for each live v: the entry is exact if the earliest position before v has had
+-- its turn, and more than the least time if not. So a live position is exact when its own turn comes, and after the last turn every live position is.
+-- It is enough that the offers of k are not below the ways by k, and exact where k is the earliest position before a live v. Assumes nothing.
+use Prim.Native.Nat.{ℕ, _≤_, _<_, _+_}
 use mathlib.Core.Path.{_≡_, refl, sym, _∙_}
 use mathlib.Core.Logic.{_≢_}
 use mathlib.Core.List.{List}
 use native.Mathlib.Decide.{decLt, ℕ-discrete}
 use native.Mathlib.Omega.{arith}
-use borrow.Author.Tests.{le-ltb}
+use borrow.Author.Tests.{le-ltb, lt-ltb}
 use lib.ListN.{length, getD, set, replicate, length-set, length-replicate, getD-replicate}
 use lib.Seq.{getD-set-same, getD-set-other}
-use Rattle.chain.specs.Working.Search.{Cost, least, earliest, reach, way, back}
-use Rattle.chain.proofs.Search.{least-old, least-cap, reach-start, reach-is, way-is, way-unreached, way-before}
+use Rattle.chain.specs.Working.Search.{Cost, reach, way, back}
+use Rattle.chain.proofs.Search.{least-le, earliest-first, reach-start, reach-is, reach-cap, back-is}
 use Rattle.job.specs.Job.{positions}
-use Rattle.search.specs.Working.Rows.{OfferMade, lesser, lesserFrom, Offered, Filled}
+use Rattle.search.specs.Working.Rows.{OfferMade, sooner, soonerFrom, Offered, Cut}
+
+-- the lesser of an arrival and what stands
+sooner-new : (c t : ℕ) → c < t → sooner c t ≡ c
+sooner-new c t h = rw (lt-ltb c t h)
+
+sooner-old : (c t : ℕ) → t ≤ c → sooner c t ≡ t
+sooner-old c t h = rw (le-ltb c t h)
+
+from-new : (c t u b : ℕ) → c < t → soonerFrom c t u b ≡ u
+from-new c t u b h = rw (lt-ltb c t h)
+
+from-old : (c t u b : ℕ) → t ≤ c → soonerFrom c t u b ≡ b
+from-old c t u b h = rw (le-ltb c t h)
 
 -- the rows when it is k's turn
-pub record Turn (N b : ℕ) (cost : Cost) (top k : ℕ) (time backs : List ℕ) : Type 0 where
+pub record Turn (N b : ℕ) (cost : Cost) (Live : ℕ → Type 0) (top k : ℕ) (time backs : List ℕ) : Type 0 where
   pub times-long : length time ≡ positions
   pub backs-long : length backs ≡ positions
   pub start : getD time b 0 ≡ 0
-  pub time-at : (v : ℕ) → v ≤ top → v ≢ b → getD time v 0 ≡ least N (way N b cost v) (min k v)
-  pub back-at : (v : ℕ) → v ≤ top → v ≢ b → getD backs v 0 ≡ earliest N (way N b cost v) (min k v)
+  pub capped : (v : ℕ) → v ≤ top → getD time v 0 ≤ N
+  pub not-low : (v : ℕ) → v ≤ top → reach N b cost v ≤ getD time v 0
+  pub exact : (v : ℕ) → v ≤ top → v ≢ b → Live v → back N b cost v < k → (getD time v 0 ≡ reach N b cost v) × (getD backs v 0 ≡ back N b cost v)
+  pub still : (v : ℕ) → v ≤ top → v ≢ b → Live v → k ≤ back N b cost v → reach N b cost v < getD time v 0
 
--- ways that take N leave the least and the earliest as they are
-least-none : (N : ℕ) (c : ℕ → ℕ) (k : ℕ) → ((j : ℕ) → j < k → c j ≡ N) → (least N c k ≡ N) × (earliest N c k ≡ 0)
-unfolding least earliest
-least-none N c zero h = (refl, refl)
-least-none N c (suc k) h =
-    let r = least-none N c k (λ j l. h j (omega arith)) in
-    let o = least-old N c k (omega (arith, h k (omega arith))) in
-    (o .0 ∙ r .0, o .1 ∙ r .1)
-
-module _ (N b : ℕ) (cost : Cost) (top : ℕ) where
+module _ (N b : ℕ) (cost : Cost) (Live : ℕ → Type 0) (top : ℕ) (reached : (v : ℕ) → v ≤ top → Live v → reach N b cost v < N) where
   -- a fresh row says none at each position, and 0 at its start
-  pub turn-first : b ≤ top → top < positions → (time backs : List ℕ) → time ≡ replicate positions N → backs ≡ replicate positions 0 → Turn N b cost top b (set time b 0) backs
+  pub turn-first : b ≤ top → top < positions → (time backs : List ℕ) → time ≡ replicate positions N → backs ≡ replicate positions 0
+      → Turn N b cost Live top b (set time b 0) backs
   turn-first h l time backs p q =
       record {
         times-long = length-set time b 0 ∙ rw p (length-replicate positions N);
         backs-long = rw q (length-replicate {A = ℕ} positions 0);
-        start = getD-set-same time b 0 0 (rw p (omega (arith, length-replicate positions N)));
-        time-at = λ v k e. getD-set-other time b v 0 0 e ∙ rw p (getD-replicate positions v N 0 (omega arith)) ∙ sym (none v .0);
-        back-at = λ v k e. rw q (getD-replicate positions v 0 0 (omega arith)) ∙ sym (none v .1);
+        start = first;
+        capped = λ v k. cap v k (ℕ-discrete v b);
+        not-low = λ v k. low v k (ℕ-discrete v b);
+        exact = λ v k e i x. absurd (omega (arith, back-is N b cost v e (reached v k i) .starts));
+        still = λ v k e i x. omega (arith, other v k e, reached v k i);
       }
     where
-      none : (v : ℕ) → (least N (way N b cost v) (min b v) ≡ N) × (earliest N (way N b cost v) (min b v) ≡ 0)
-      none v = least-none N (way N b cost v) (min b v) (λ j m. way-before N b cost v j (omega arith))
+      first : getD (set time b 0) b 0 ≡ 0
+      first = getD-set-same time b 0 0 (rw p (omega (arith, length-replicate positions N)))
 
-  module _ (k : ℕ) (time backs : List ℕ) (turn : Turn N b cost top k time backs) where
-    -- at its turn an entry is the least time of arrival
-    pub turn-now : b ≤ k → k ≤ top → getD time k 0 ≡ reach N b cost k
-    turn-now h l = go (ℕ-discrete k b)
+      other : (v : ℕ) → v ≤ top → v ≢ b → getD (set time b 0) v 0 ≡ N
+      other v k e = getD-set-other time b v 0 0 e ∙ rw p (getD-replicate positions v N 0 (omega arith))
+
+      cap : (v : ℕ) → v ≤ top → Dec (v ≡ b) → getD (set time b 0) v 0 ≤ N
+      cap v k (yes e) = rw (e, first) (omega arith)
+      cap v k (no e) = omega (arith, other v k e)
+
+      low : (v : ℕ) → v ≤ top → Dec (v ≡ b) → reach N b cost v ≤ getD (set time b 0) v 0
+      low v k (yes e) = rw e (omega (arith, reach-start N b cost))
+      low v k (no e) = omega (arith, other v k e, reach-cap N b cost v)
+
+  module _ (k : ℕ) (time backs : List ℕ) (turn : Turn N b cost Live top k time backs) (h : b ≤ k) where
+    -- at its turn a live position is exact
+    pub turn-now : k ≤ top → Live k → getD time k 0 ≡ reach N b cost k
+    turn-now l i = go (ℕ-discrete k b)
       where
         go : Dec (k ≡ b) → getD time k 0 ≡ reach N b cost k
         go (yes e) = rw e (turn .start ∙ sym (reach-start N b cost))
-        go (no e) = let m : min k k ≡ k = omega arith in turn .time-at k l e ∙ rw m (sym (reach-is N b cost k e))
+        go (no e) = turn .exact k l e i (back-is N b cost k e (reached k l i) .falls) .0
 
-    pub turn-cap : (w : ℕ) → w ≤ top → getD time w 0 ≤ N
-    turn-cap w l = go (ℕ-discrete w b)
-      where
-        go : Dec (w ≡ b) → getD time w 0 ≤ N
-        go (yes e) = rw e (omega (arith, turn .start))
-        go (no e) = omega (arith, turn .time-at w l e, least-cap N (way N b cost w) (min k w))
+    -- offers of k before e make its turn
+    module _ (e : ℕ) (c : ℕ → ℕ) (time' backs' : List ℕ) (o : Offered time backs k e c time' backs') (below : e ≤ top + 1)
+        (not-below : (v : ℕ) → k < v → v < e → way N b cost v k ≤ c v)
+        (offered : (v : ℕ) → v ≤ top → v ≢ b → Live v → back N b cost v ≡ k → (v < e) × (c v ≡ reach N b cost v)) where
+      way-reach : (v : ℕ) → k < v → reach N b cost v ≤ way N b cost v k
+      way-reach v l = omega (arith, reach-is N b cost v (omega arith), least-le N (way N b cost v) v k l)
 
-    -- where k is not reached, its turn changes nothing
-    pub turn-none : b ≤ k → k ≤ top → N ≤ getD time k 0 → Turn N b cost top (k + 1) time backs
-    turn-none h l n =
-        record {
-          times-long = turn .times-long;
-          backs-long = turn .backs-long;
-          start = turn .start;
-          time-at = λ v m e. turn .time-at v m e ∙ same v (decLt k v) .0;
-          back-at = λ v m e. turn .back-at v m e ∙ same v (decLt k v) .1;
-        }
-      where
-        same : (v : ℕ) → Dec (k < v)
-            → (least N (way N b cost v) (min k v) ≡ least N (way N b cost v) (min (k + 1) v))
-            × (earliest N (way N b cost v) (min k v) ≡ earliest N (way N b cost v) (min (k + 1) v))
-        same v (yes m) =
-            let p : min k v ≡ k = omega arith in
-            let q : min (k + 1) v ≡ suc k = omega arith in
-            let o = least-old N (way N b cost v) k (omega (arith, least-cap N (way N b cost v) k, way-unreached N b cost v k (omega (arith, turn-now h l)))) in
-            rw (p, q) (sym (o .0), sym (o .1))
-        same v (no m) =
-            let p : min k v ≡ v = omega arith in
-            let q : min (k + 1) v ≡ v = omega arith in
-            rw (p, q) (refl, refl)
+      way-later : (v : ℕ) → k < v → k < back N b cost v → reach N b cost v < way N b cost v k
+      unfolding back
+      way-later v l x = omega (arith, reach-is N b cost v (omega arith), earliest-first N (way N b cost v) v k x)
 
-    -- the offers of a position that is reached make its turn
-    pub turn-offers : b ≤ k → k ≤ top → getD time k 0 < N → (c : ℕ → ℕ) (time' backs' : List ℕ) → ((v : ℕ) → k < v → v ≤ top → c v ≡ cost k (getD time k 0) v)
-        → Offered time backs k (top + 1) c time' backs' → Turn N b cost top (k + 1) time' backs'
-    unfolding least earliest
-    turn-offers h l r c time' backs' is o =
-        record {
-          times-long = o .times-long ∙ turn .times-long;
-          backs-long = o .backs-long ∙ turn .backs-long;
-          start = o .time-early b h ∙ turn .start;
-          time-at = λ v m e. at v m e (decLt k v) .0;
-          back-at = λ v m e. at v m e (decLt k v) .1;
-        }
-      where
-        offer : (v : ℕ) → v ≤ top → k < v → way N b cost v k ≡ c v
-        offer v m q = way-is N b cost v k h (omega (arith, turn-now h l)) ∙ rw (← (turn-now h l)) (sym (is v q m))
+      -- what the turn does at v
+      same : (v : ℕ) → Dec (k < v) → Dec (v < e) → (k < v → v < e → getD time v 0 ≤ c v) → (getD time' v 0 ≡ getD time v 0) × (getD backs' v 0 ≡ getD backs v 0)
+      same v (no x) y z = (o .time-early v (omega arith), o .back-early v (omega arith))
+      same v (yes x) (no y) z = (o .time-late v (omega arith), o .back-late v (omega arith))
+      same v (yes x) (yes y) z =
+          (o .time-at v x y ∙ sooner-old (c v) (getD time v 0) (z x y), o .back-at v x y ∙ from-old (c v) (getD time v 0) k (getD backs v 0) (z x y))
 
-        at : (v : ℕ) → v ≤ top → v ≢ b → Dec (k < v) → (getD time' v 0 ≡ least N (way N b cost v) (min (k + 1) v)) × (getD backs' v 0 ≡ earliest N (way N b cost v) (min (k + 1) v))
-        at v m e (yes q) =
-            let p : min k v ≡ k = omega arith in
-            let z : min (k + 1) v ≡ suc k = omega arith in
-            let t : getD time v 0 ≡ least N (way N b cost v) k = rw p at (turn .time-at v m e) in
-            let u : getD backs v 0 ≡ earliest N (way N b cost v) k = rw p at (turn .back-at v m e) in
-            rw (z, o .time-at v q (omega arith), o .back-at v q (omega arith), t, u, ← (offer v m q)) (refl, refl)
-        at v m e (no q) =
-            let p : min k v ≡ v = omega arith in
-            let z : min (k + 1) v ≡ v = omega arith in
-            rw z (o .time-early v (omega arith) ∙ rw p at (turn .time-at v m e), o .back-early v (omega arith) ∙ rw p at (turn .back-at v m e))
+      new : (v : ℕ) → k < v → v < e → c v < getD time v 0 → (getD time' v 0 ≡ c v) × (getD backs' v 0 ≡ k)
+      new v x y z = (o .time-at v x y ∙ sooner-new (c v) (getD time v 0) z, o .back-at v x y ∙ from-new (c v) (getD time v 0) k (getD backs v 0) z)
 
-    -- after the last turn the rows are filled
-    pub turn-last : top ≤ k → Filled N b cost top time backs
-    unfolding back
-    turn-last h =
-        record {
-          times-long = turn .times-long;
-          backs-long = turn .backs-long;
-          times = λ v l. at v l (ℕ-discrete v b);
-          backs = λ v l e. let m : min k v ≡ v = omega arith in rw m at (turn .back-at v l e);
-        }
-      where
-        at : (v : ℕ) → v ≤ top → Dec (v ≡ b) → getD time v 0 ≡ reach N b cost v
-        at v l (yes e) = rw e (turn .start ∙ sym (reach-start N b cost))
-        at v l (no e) = let m : min k v ≡ v = omega arith in turn .time-at v l e ∙ rw m (sym (reach-is N b cost v e))
+      -- a time falls to an offer at most
+      either : (v x : ℕ) → x ≤ getD time v 0 → (k < v → v < e → x ≤ c v) → x ≤ getD time' v 0
+      either v x l z = go (decLt k v) (decLt v e) (decLt (c v) (getD time v 0))
+        where
+          go : Dec (k < v) → Dec (v < e) → Dec (c v < getD time v 0) → x ≤ getD time' v 0
+          go (yes a) (yes i) (yes j) = omega (arith, new v a i j .0, z a i)
+          go (yes a) (yes i) (no j) = omega (arith, same v (yes a) (yes i) (λ _ _. omega arith) .0)
+          go (yes a) (no i) j = omega (arith, o .time-late v (omega arith))
+          go (no a) i j = omega (arith, o .time-early v (omega arith))
+
+      fewer : (v : ℕ) → getD time' v 0 ≤ getD time v 0
+      fewer v = go (decLt k v) (decLt v e) (decLt (c v) (getD time v 0))
+        where
+          go : Dec (k < v) → Dec (v < e) → Dec (c v < getD time v 0) → getD time' v 0 ≤ getD time v 0
+          go (yes a) (yes i) (yes j) = omega (arith, new v a i j .0)
+          go (yes a) (yes i) (no j) = omega (arith, same v (yes a) (yes i) (λ _ _. omega arith) .0)
+          go (yes a) (no i) j = omega (arith, o .time-late v (omega arith))
+          go (no a) i j = omega (arith, o .time-early v (omega arith))
+
+      pub turn-next : Turn N b cost Live top (k + 1) time' backs'
+      turn-next =
+          record {
+            times-long = o .times-long ∙ turn .times-long;
+            backs-long = o .backs-long ∙ turn .backs-long;
+            start = o .time-early b h ∙ turn .start;
+            capped = λ v l. omega (arith, fewer v, turn .capped v l);
+            not-low = λ v l. either v (reach N b cost v) (turn .not-low v l) (λ x y. omega (arith, way-reach v x, not-below v x y));
+            exact = λ v l n i x. at v l n i (ℕ-discrete (back N b cost v) k) x;
+            still = λ v l n i x. omega (arith, later v l n i x);
+          }
+        where
+          later : (v : ℕ) → v ≤ top → v ≢ b → Live v → k + 1 ≤ back N b cost v → reach N b cost v + 1 ≤ getD time' v 0
+          later v l n i x =
+              either v (reach N b cost v + 1) (omega (arith, turn .still v l n i (omega arith)))
+              (λ a y. omega (arith, way-later v a (omega arith), not-below v a y))
+
+          at : (v : ℕ) → v ≤ top → v ≢ b → Live v → Dec (back N b cost v ≡ k) → back N b cost v < k + 1
+              → (getD time' v 0 ≡ reach N b cost v) × (getD backs' v 0 ≡ back N b cost v)
+          at v l n i (yes p) x =
+              let f = offered v l n i p in
+              let lt : k < v = omega (arith, back-is N b cost v n (reached v l i) .falls) in
+              let s = new v lt (f .0) (omega (arith, f .1, turn .still v l n i (omega arith))) in
+              (s .0 ∙ f .1, s .1 ∙ sym p)
+          at v l n i (no p) x =
+              let t = turn .exact v l n i (omega arith) in
+              let s = same v (decLt k v) (decLt v e) (λ a y. omega (arith, t .0, way-reach v a, not-below v a y)) in
+              (s .0 ∙ t .0, s .1 ∙ t .1)
+
+  -- after the last turn the rows are filled
+  pub turn-last : (k : ℕ) (time backs : List ℕ) → Turn N b cost Live top k time backs → top ≤ k → Cut N b cost Live top time backs
+  turn-last k time backs turn h =
+      record {
+        times-long = turn .times-long;
+        backs-long = turn .backs-long;
+        capped = turn .capped;
+        not-low = turn .not-low;
+        times = λ v l i. at v l i (ℕ-discrete v b);
+        backs = λ v l e i. turn .exact v l e i (omega (arith, back-is N b cost v e (reached v l i) .falls)) .1;
+      }
+    where
+      at : (v : ℕ) → v ≤ top → Live v → Dec (v ≡ b) → getD time v 0 ≡ reach N b cost v
+      at v l i (yes e) = rw e (turn .start ∙ sym (reach-start N b cost))
+      at v l i (no e) = turn .exact v l e i (omega (arith, back-is N b cost v e (reached v l i) .falls)) .0
 
 -- one offer more: the lesser of the two times at v, and the way that gave it
 pub offered-none : (time backs : List ℕ) (u : ℕ) (c : ℕ → ℕ) → Offered time backs u (u + 1) c time backs
@@ -145,7 +177,7 @@ offered-none time backs u c =
 
 module _ (time backs : List ℕ) (u v : ℕ) (c : ℕ → ℕ) (time' backs' : List ℕ) (o : Offered time backs u v c time' backs') (h : u < v) where
   put-more : v < length time → v < length backs
-      → Offered time backs u (v + 1) c (set time' v (lesser (c v) (getD time' v 0))) (set backs' v (lesserFrom (c v) (getD time' v 0) u (getD backs' v 0)))
+      → Offered time backs u (v + 1) c (set time' v (sooner (c v) (getD time' v 0))) (set backs' v (soonerFrom (c v) (getD time' v 0) u (getD backs' v 0)))
   put-more l m =
       record {
         times-long = length-set time' v _ ∙ o .times-long;
@@ -159,16 +191,16 @@ module _ (time backs : List ℕ) (u v : ℕ) (c : ℕ → ℕ) (time' backs' : L
       }
     where
       best : ℕ
-      best = lesser (c v) (getD time' v 0)
+      best = sooner (c v) (getD time' v 0)
 
       from : ℕ
-      from = lesserFrom (c v) (getD time' v 0) u (getD backs' v 0)
+      from = soonerFrom (c v) (getD time' v 0) u (getD backs' v 0)
 
-      time-here : (w : ℕ) → u < w → w < v + 1 → Dec (w ≡ v) → getD (set time' v best) w 0 ≡ lesser (c w) (getD time w 0)
+      time-here : (w : ℕ) → u < w → w < v + 1 → Dec (w ≡ v) → getD (set time' v best) w 0 ≡ sooner (c w) (getD time w 0)
       time-here w a b (yes e) = rw (e, getD-set-same time' v best 0 (omega (arith, o .times-long)), o .time-late v (omega arith))
       time-here w a b (no e) = getD-set-other time' v w best 0 e ∙ o .time-at w a (omega arith)
 
-      back-here : (w : ℕ) → u < w → w < v + 1 → Dec (w ≡ v) → getD (set backs' v from) w 0 ≡ lesserFrom (c w) (getD time w 0) u (getD backs w 0)
+      back-here : (w : ℕ) → u < w → w < v + 1 → Dec (w ≡ v) → getD (set backs' v from) w 0 ≡ soonerFrom (c w) (getD time w 0) u (getD backs w 0)
       back-here w a b (yes e) =
           rw (
             e,
@@ -181,25 +213,3 @@ module _ (time backs : List ℕ) (u v : ℕ) (c : ℕ → ℕ) (time' backs' : L
   pub offered-more : v < length time → v < length backs → (x : ℕ) → x ≡ c v → (time'' backs'' : List ℕ) → OfferMade time' backs' v u x time'' backs''
       → Offered time backs u (v + 1) c time'' backs''
   offered-more l m x e time'' backs'' made = rw (made .times, made .froms, e) (put-more l m)
-
-  -- an offer that is no less changes nothing
-  pub offered-skip : getD time v 0 ≤ c v → Offered time backs u (v + 1) c time' backs'
-  offered-skip l =
-      record {
-        times-long = o .times-long;
-        backs-long = o .backs-long;
-        time-at = λ w a b. time-here w a b (ℕ-discrete w v);
-        back-at = λ w a b. back-here w a b (ℕ-discrete w v);
-        time-early = o .time-early;
-        back-early = o .back-early;
-        time-late = λ w a. o .time-late w (omega arith);
-        back-late = λ w a. o .back-late w (omega arith);
-      }
-    where
-      time-here : (w : ℕ) → u < w → w < v + 1 → Dec (w ≡ v) → getD time' w 0 ≡ lesser (c w) (getD time w 0)
-      time-here w a b (yes e) = rw (e, le-ltb (c v) (getD time v 0) l) (o .time-late v (omega arith))
-      time-here w a b (no e) = o .time-at w a (omega arith)
-
-      back-here : (w : ℕ) → u < w → w < v + 1 → Dec (w ≡ v) → getD backs' w 0 ≡ lesserFrom (c w) (getD time w 0) u (getD backs w 0)
-      back-here w a b (yes e) = rw (e, le-ltb (c v) (getD time v 0) l) (o .back-late v (omega arith))
-      back-here w a b (no e) = o .back-at w a (omega arith)

@@ -5,8 +5,19 @@
 //
 // Least times are found forward at three levels. From a disk copy d and a memory copy m, the verification row has the least Q(v) over the mark u before v;
 // from a disk copy d, the memory row has the least M(v) over the memory copy m before v; the disk row has the least D(v) over the disk copy d before v.
-// Each row keeps the earliest position before v that gives its least time, and the marks are found by walking back over these from n.
-// The work grows as n^4; the table has four entries of 32 bits for each pair of positions and for each position, and six rows are held at a time.
-pub mod rows;
+// The marks are found by walking back from n over the earliest positions that give these times.
+//
+// Copies that cannot matter are left out. Bounds on what is still to come are worked out once, in n^3 steps, the last of them backward; a first limit is the time of the setting that
+// they take for the best; and a row of copies is filled only where the bounds leave room below that limit. Verification rows are exact; rows of copies are never too
+// low, and exact wherever the plan goes. What is not found within the first limit is looked for again up to the longest time, so nothing rests on the limit.
+//
+//     table ── bounding ── limit ── rows ── find ── walk
+//     chain    bounds      a time   least   plan's  marks
+//                                   times   time
+pub mod bounding;
+pub mod bounds;
+pub mod find;
+mod limit;
+mod rows;
 pub mod table;
 pub mod walk;

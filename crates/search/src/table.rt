@@ -1,10 +1,10 @@
 // The table that holds a chain: the factors of each pair of ends u < v, and the costs of each position. The crates that fill and search it call these,
 // with a table of its length and positions within it.
 ghost use mathlib.Core.Path.{_≡_};
-ghost use Prim.Native.Nat.{_<_};
+ghost use Prim.Native.Nat.{_+_, _<_};
 ghost use lib.ListN.{length, take, drop};
 ghost use Rattle.job.specs.Job.{positions};
-ghost use Rattle.search.specs.Working.Table.{half, tableLength, cmStart, cdStart, entryOf, putPair, putCosts, IsPair, InTable, PairFits, ReadyForPair, ReadyForCosts, ReadyForRecoveries, RecoveriesIn};
+ghost use Rattle.search.specs.Working.Table.{half, tableLength, cmStart, cdStart, rdStart, rmStart, firstStart, column, entryOf, putPair, putCosts, IsPair, InTable, PairFits, ReadyForPair, ReadyForCosts, InColumn, ReadyForRecoveries, RecoveriesIn, ReadyForFirsts, FirstIs, FirstsPut};
 use chain::Factors;
 use chain::Recoveries;
 use job::POSITIONS;
@@ -26,7 +26,10 @@ const RD_START: usize = CD_START + POSITIONS;
 
 const RM_START: usize = RD_START + POSITIONS;
 
-pub const TABLE_LENGTH: usize = RM_START + POSITIONS;
+// Then for each position the first one from which a stretch to it is allowed; that none before it is, is all that is asked of it.
+const FIRST_START: usize = RM_START + POSITIONS;
+
+pub const TABLE_LENGTH: usize = FIRST_START + POSITIONS;
 
 // The costs of a position.
 pub struct Costs {
@@ -42,13 +45,12 @@ pub fn wide(x: u32) -> u64
     x as u64
 }
 
-// Which pair (u, v) is: the pairs of a near end stand together, the last near end first.
+// Which pair (u, v) is: the pairs of a far end stand together.
 fn pair_index(u: usize, v: usize) -> usize
     requires { ⌜ IsPair u v ⌝ }
     ensures { λ r. ⌜ InTable u v r ⌝ }
 {
-    let later = POSITIONS - 1 - u;
-    later * (later - 1) / 2 + (v - u - 1)
+    v * (v - 1) / 2 + u
 }
 
 // The factors of the stretch from u to v.
@@ -103,13 +105,82 @@ pub fn disk_copies(t: &[u32]) -> &[u32]
     &t[CD_START..RD_START]
 }
 
+// C_M at v.
+pub fn memory_copy(t: &[u32], v: usize) -> u64
+    requires { ⌜ InColumn (now t) v ⌝ }
+    ensures { λ r. ⌜ r ≡ column cmStart (now (t .entry)) v ⌝ }
+{
+    wide(t[CM_START + v])
+}
+
+// C_D at v.
+pub fn disk_copy(t: &[u32], v: usize) -> u64
+    requires { ⌜ InColumn (now t) v ⌝ }
+    ensures { λ r. ⌜ r ≡ column cdStart (now (t .entry)) v ⌝ }
+{
+    wide(t[CD_START + v])
+}
+
+// R_D' where d is the last disk copy.
+pub fn disk_recovery(t: &[u32], d: usize) -> u64
+    requires { ⌜ InColumn (now t) d ⌝ }
+    ensures { λ r. ⌜ r ≡ column rdStart (now (t .entry)) d ⌝ }
+{
+    wide(t[RD_START + d])
+}
+
+// R_M' where m is the last memory copy.
+pub fn memory_recovery(t: &[u32], m: usize) -> u64
+    requires { ⌜ InColumn (now t) m ⌝ }
+    ensures { λ r. ⌜ r ≡ column rmStart (now (t .entry)) m ⌝ }
+{
+    wide(t[RM_START + m])
+}
+
 // R_D' + M' and R_M' where d and m are the last copies, and mt is M'.
 pub fn recoveries(t: &[u32], d: usize, m: usize, mt: u64) -> Recoveries
     requires { ⌜ ReadyForRecoveries (now t) d m mt ⌝ }
     ensures { λ r. ⌜ RecoveriesIn (now (t .entry)) d m mt r ⌝ }
 {
     Recoveries {
-        disk: wide(t[RD_START + d]) + mt,
-        memory: wide(t[RM_START + m]),
+        disk: disk_recovery(t, d) + mt,
+        memory: memory_recovery(t, m),
     }
+}
+
+// The first position from which a stretch to v is allowed, and v where there is none.
+fn first_allowed(t: &[u32], v: usize) -> usize
+    requires { ⌜ ReadyForFirsts (now t) v ⌝ }
+    ensures { λ r. ⌜ FirstIs (now (t .entry)) v r ⌝ }
+{
+    let mut u: usize = 0;
+    while u < v {
+        let f = entry(t, u, v);
+        if f.both != 0 {
+            return u;
+        }
+        u += 1;
+    }
+    v
+}
+
+// Puts these in their column. The crate that fills the table calls this last.
+pub fn put_firsts(t: &mut [u32], n: usize)
+    requires { ⌜ ReadyForFirsts (now t) n ⌝ }
+    ensures { λ _. ⌜ FirstsPut (now (t .entry)) (n + 1) (now (t .exit)) ⌝ }
+{
+    let mut v: usize = 0;
+    while v <= n {
+        let first = first_allowed(t, v);
+        t[FIRST_START + v] = first as u32;
+        v += 1;
+    }
+}
+
+// The first position from which a stretch to v may be allowed.
+pub fn first_of(t: &[u32], v: usize) -> usize
+    requires { ⌜ InColumn (now t) v ⌝ }
+    ensures { λ r. ⌜ r ≡ column firstStart (now (t .entry)) v ⌝ }
+{
+    wide(t[FIRST_START + v]) as usize
 }

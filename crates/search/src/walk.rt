@@ -1,10 +1,12 @@
-// The marks of the plan, by walking back from the last task over the earliest positions before.
+// The marks of the plan, by walking back from the last task over the earliest positions before. The disk row is what the search has found; the rows of the
+// other levels are filled anew, cut where the plan leaves no room, from each disk copy of the plan and each memory copy of it.
 ghost use Rattle.units.specs.Limits.{none};
 ghost use Rattle.chain.specs.Time.{disk};
 ghost use Rattle.chain.specs.Working.Search.{backD};
 ghost use Rattle.chain.specs.Working.Walk.{PlannedMarks};
 ghost use Rattle.search.specs.Working.Table.{chainIn};
-ghost use Rattle.search.specs.Working.Walk.{StepsBack, ReadyAtCopy, AtCopy, ReadyAtDisk, ReadyToStep, ReadyToWalk};
+ghost use Rattle.search.specs.Working.Walk.{StepsBack, ReadyAtCopy, RowsAt, AtCopy, ReadyAtDisk, ReadyToStep, ReadyToWalk};
+use crate::rows::check_before;
 use crate::rows::memory_row;
 use crate::rows::verification_row;
 use crate::table::recoveries;
@@ -15,8 +17,8 @@ use job::POSITIONS;
 use job::TASK_LIMIT;
 use units::NONE;
 
-// A step of the walk: v has mark k, the last copies before it are d and m. `times` and `copies` are the memory row from d, `checks` the positions before
-// of the verifications from m.
+// A step of the walk: v has mark k, the last copies before it are d and m. `times` and `copies` are the memory row from d, `checks` the row of verifications
+// from m.
 pub struct Walk {
     pub k: u8,
     pub d: usize,
@@ -24,7 +26,7 @@ pub struct Walk {
     pub v: usize,
     pub times: [u64; POSITIONS],
     pub copies: [usize; POSITIONS],
-    pub checks: [usize; POSITIONS],
+    pub checks: [u64; POSITIONS],
 }
 
 // The step at the copy v with mark k, whose last disk copy is d.
@@ -36,14 +38,13 @@ fn at_copy(
     times: [u64; POSITIONS],
     copies: [usize; POSITIONS],
 ) -> Walk
-    requires { ⌜ ReadyAtCopy (now t) k d v times copies ⌝ }
-    ensures { λ r. ⌜ AtCopy (now (t .entry)) k d v r ⌝ }
+    requires { ⌜ ReadyAtCopy (now t) d v times copies ⌝ }
+    ensures { λ r. ⌜ RowsAt (now (t .entry)) k d v times copies r ⌝ }
 {
     let m = copies[v];
     let r = recoveries(t, d, m, times[m]);
-    let mut q = [NONE; POSITIONS];
-    let mut checks = [0usize; POSITIONS];
-    verification_row(&mut q, &mut checks, t, r, m, v);
+    let mut checks = [NONE; POSITIONS];
+    verification_row(&mut checks, t, r, m, v);
     Walk {
         k,
         d,
@@ -55,22 +56,23 @@ fn at_copy(
     }
 }
 
-// The step at the disk copy v.
-fn at_disk(t: &[u32], backs: &[usize], v: usize) -> Walk
-    requires { ⌜ ReadyAtDisk (now t) (now backs) v ⌝ }
-    ensures { λ r. ⌜ AtCopy (now (t .entry)) disk (backD (chainIn (now (t .entry))) none v) v r ⌝ }
+// The step at the disk copy v of the plan of n tasks; `time` and `backs` are the disk row.
+fn at_disk(t: &[u32], b: &[u64], time: &[u64], backs: &[usize], n: usize, v: usize) -> Walk
+    requires { ⌜ ReadyAtDisk (now t) (now b) n (now time) (now backs) v ⌝ }
+    ensures { λ r. ⌜ AtCopy (now (t .entry)) (now (b .entry)) n disk (backD (chainIn (now (t .entry))) none v) v r ⌝ }
 {
     let d = backs[v];
+    let left = time[n] + 1 - time[d];
     let mut times = [NONE; POSITIONS];
     let mut copies = [0usize; POSITIONS];
-    memory_row(&mut times, &mut copies, t, d, v);
+    memory_row(&mut times, &mut copies, t, b, d, left, v);
     at_copy(t, DISK, d, v, times, copies)
 }
 
 // The step before w; at 0 where the walk is over.
-fn step_back(t: &[u32], backs: &[usize], w: Walk) -> Walk
-    requires { ⌜ ReadyToStep (now t) (now backs) w ⌝ }
-    ensures { λ r. ⌜ StepsBack (now (t .entry)) w r ⌝ }
+fn step_back(t: &[u32], b: &[u64], time: &[u64], backs: &[usize], n: usize, w: Walk) -> Walk
+    requires { ⌜ ReadyToStep (now t) (now b) n (now time) (now backs) w ⌝ }
+    ensures { λ r. ⌜ StepsBack (now (t .entry)) (now (b .entry)) n w r ⌝ }
 {
     let d = w.d;
     let m = w.m;
@@ -78,7 +80,8 @@ fn step_back(t: &[u32], backs: &[usize], w: Walk) -> Walk
     let times = w.times;
     let copies = w.copies;
     let checks = w.checks;
-    let u = checks[v];
+    let r = recoveries(t, d, m, times[m]);
+    let u = check_before(&checks, t, r, m, v);
     if u != m {
         return Walk {
             k: VERIFICATION,
@@ -94,7 +97,7 @@ fn step_back(t: &[u32], backs: &[usize], w: Walk) -> Walk
         return at_copy(t, MEMORY, d, m, times, copies);
     }
     if d != 0 {
-        return at_disk(t, backs, d);
+        return at_disk(t, b, time, backs, n, d);
     }
     Walk {
         k: 0,
@@ -107,18 +110,18 @@ fn step_back(t: &[u32], backs: &[usize], w: Walk) -> Walk
     }
 }
 
-// The marks of the plan of n tasks, whose least time is below none; `backs` is of the disk row.
-pub fn plan_marks(t: &[u32], backs: &[usize], n: usize) -> [u8; TASK_LIMIT]
-    requires { ⌜ ReadyToWalk (now t) n (now backs) ⌝ }
+// The marks of the plan of n tasks, whose least time is below none; `time` and `backs` are the disk row.
+pub fn plan_marks(t: &[u32], b: &[u64], time: &[u64], backs: &[usize], n: usize) -> [u8; TASK_LIMIT]
+    requires { ⌜ ReadyToWalk (now t) (now b) n (now time) (now backs) ⌝ }
     ensures { λ r. ⌜ PlannedMarks (chainIn (now (t .entry))) none n r ⌝ }
 {
     let mut marks = [0u8; TASK_LIMIT];
-    let mut w = at_disk(t, backs, n);
+    let mut w = at_disk(t, b, time, backs, n, n);
     while 0 < w.v {
         let v = w.v;
         let k = w.k;
         marks[v - 1] = k;
-        w = step_back(t, backs, w);
+        w = step_back(t, b, time, backs, n, w);
     }
     marks
 }

@@ -1,5 +1,7 @@
 -- The factors of a stretch of a job, worked out once for all its last copies and times.
 use Prim.Native.Nat.{ℕ, _+_, _*_, _≤_}
+use mathlib.Core.Path.{_≡_}
+use mathlib.Core.Logic.{_≢_}
 use Rattle.units.specs.Unit.{up}
 use Rattle.units.specs.Limits.{costLimit}
 use Rattle.growth.specs.Growth.{G, H}
@@ -44,3 +46,9 @@ pub record ReadyForEnergy (powers : Powers) (weight v : ℕ) : Type 0 where
   pub weight-range : weight ≤ costLimit
   pub weight-product : powers .computing * weight ≤ costLimit
   pub v-product : powers .computing * v ≤ costLimit
+
+-- the factors f where G(y_s + y_f) is not 0, so that the stretch is allowed; elsewhere `both` alone counts, and is 0
+pub record FactorsIfAllowed (f r : Factors) : Type 0 where
+  pub both : r .both ≡ f .both
+  pub silent : r .silent ≤ f .silent
+  pub all : r .both ≢ 0 → r ≡ f

@@ -2,6 +2,7 @@
 -- powers 1 and 1. Assumes nothing.
 use mathlib.Core.Path.{sym, _∙_, ap}
 use native.Mathlib.Omega.{arith}
+use Rattle.chain.proofs.Same.{same-allowed}
 use Rattle.sheet.specs.declared.JobReading.{JobReading}
 use Rattle.sheet.proofs.Readings.{reading-number, reading-job, sheet-sound}
 use Rattle.costs.proofs.Ranges.{plain-products}
@@ -68,7 +69,7 @@ returns-3 c =
     let clear = sym number ∙ if1 .left in
     let job = ap (λ (r : JobReading). r .job) (read-job .ensures) ∙ reading-job _ clear in
     chain-answer _ _ _ _ _ _ clear (rw job at (if2 .left))
-    (plans-same _ _ _ (plain-same _ _) (sheet-sound _ clear .some-task) _ _ _ (rw (plain .ensures, job) at (plan-job .ensures)))
+    (plans-same _ _ _ (same-allowed _ _ _ (plain-same _ _)) (sheet-sound _ clear .some-task) _ _ _ (rw (plain .ensures, job) at (plan-job .ensures)))
 
 pub plan-spec : {M : Type 1} → statement M
 plan-spec =

@@ -1,4 +1,5 @@
--- The table that holds a chain, in entries of 32 bits: four for each pair of positions u < v, then a column for each cost. `chainIn` is the chain that it holds.
+-- The table that holds a chain, in entries of 32 bits: four for each pair of positions u < v, then a column for each cost, and one for the first near end of a stretch
+-- to v that is allowed. `chainIn` is the chain that it holds.
 use Prim.Native.Nat.{ℕ, zero, suc, _+_, _-_, _*_, _/_, _%_, _^_, _≤_, _<_}
 use mathlib.Core.Path.{_≡_}
 use mathlib.Core.Logic.{_≢_}
@@ -41,12 +42,15 @@ rdStart = cdStart + positions
 abbrev pub rmStart : ℕ
 rmStart = rdStart + positions
 
-abbrev pub tableLength : ℕ
-tableLength = rmStart + positions
+abbrev pub firstStart : ℕ
+firstStart = rmStart + positions
 
--- which pair (u, v) is: the pairs of a near end stand together, the last near end first
+abbrev pub tableLength : ℕ
+tableLength = firstStart + positions
+
+-- which pair (u, v) is: the pairs of a far end stand together
 unfoldable pub pairIndex : ℕ → ℕ → ℕ
-pairIndex u v = triangle (positions - 1 - u) + (v - u - 1)
+pairIndex u v = triangle v + u
 
 -- where its entries start
 abbrev pub pairAt : ℕ → ℕ → ℕ
@@ -83,6 +87,11 @@ arrivalAt t r u q v = cond (not (eqb (entryOf t u v .both) 0)) (q + stretchOf (e
 abbrev pub diskRecoveryCap : ℕ
 diskRecoveryCap = 2 * costLimit
 
+-- for each v up to n: no stretch to v from a position before its first is allowed
+pub record Firsts (n : ℕ) (t : List ℕ) : Type 0 where
+  pub within : (v : ℕ) → v ≤ n → column firstStart t v ≤ v
+  pub none-before : (u v : ℕ) → u < column firstStart t v → v ≤ n → entryOf t u v .both ≡ 0
+
 -- how far the numbers of the table may go, up to the position n
 pub record Bounded (n : ℕ) (t : List ℕ) : Type 0 where
   pub long : length t ≡ tableLength
@@ -92,6 +101,7 @@ pub record Bounded (n : ℕ) (t : List ℕ) : Type 0 where
   pub cd : (v : ℕ) → v ≤ n → column cdStart t v ≤ costLimit
   pub rd : (v : ℕ) → v ≤ n → column rdStart t v ≤ diskRecoveryCap
   pub rm : (v : ℕ) → v ≤ n → column rmStart t v ≤ costLimit
+  pub firsts : Firsts n t
 
 -- two positions in order
 pub record IsPair (u v : ℕ) : Type 0 where
@@ -136,6 +146,26 @@ pub record ReadyForCosts (t : List ℕ) (v : ℕ) (c : Costs) : Type 0 where
   pub rd : c .rd < half
   pub rm : c .rm < half
 
+-- a place in each column
+pub record InColumn (t : List ℕ) (v : ℕ) : Type 0 where
+  pub long : length t ≡ tableLength
+  pub few : v < positions
+
+-- r is v, or a position before it, and no stretch to v from before r is allowed
+pub record FirstIs (t : List ℕ) (v r : ℕ) : Type 0 where
+  pub within : r ≤ v
+  pub none-before : (u : ℕ) → u < r → entryOf t u v .both ≡ 0
+
+-- the table t with the firsts of the positions before e, and else the same
+pub record FirstsPut (t : List ℕ) (e : ℕ) (t' : List ℕ) : Type 0 where
+  pub long : length t' ≡ length t
+  pub others : (i : ℕ) → i < firstStart → getD t' i 0 ≡ getD t i 0
+  pub firsts : (v : ℕ) → v < e → FirstIs t v (column firstStart t' v)
+
+pub record ReadyForFirsts (t : List ℕ) (n : ℕ) : Type 0 where
+  pub long : length t ≡ tableLength
+  pub few : n < positions
+
 -- the last copies d and m, with the time M' at m
 pub record ReadyForRecoveries (t : List ℕ) (d m M' : ℕ) : Type 0 where
   pub long : length t ≡ tableLength
@@ -143,7 +173,7 @@ pub record ReadyForRecoveries (t : List ℕ) (d m M' : ℕ) : Type 0 where
   pub m-few : m < positions
   pub rd : column rdStart t d ≤ diskRecoveryCap
   pub rm : column rmStart t m ≤ costLimit
-  pub time : M' < none
+  pub time : M' ≤ none
 
 pub record RecoveriesIn (t : List ℕ) (d m M' : ℕ) (r : Recoveries) : Type 0 where
   pub value : r ≡ record { disk = column rdStart t d + M'; memory = column rmStart t m }

@@ -1,73 +1,92 @@
--- How the marks are found, by walking back from n to the start: what a step of the walk has, and what the place before it is.
-use Prim.Native.Nat.{ℕ, _≤_, _<_}
+-- How the marks are found, by walking back from n to the start: what the walk goes by, what a step of it has, and what the place before it is.
+-- Each step leaves room for what comes after, so that the cut rows that it reads are exact there.
+use Prim.Native.Nat.{ℕ, _+_, _-_, _≤_, _<_}
 use mathlib.Core.Path.{_≡_}
 use mathlib.Core.Logic.{_≢_}
 use mathlib.Core.List.{List}
 use lib.ListN.{length, getD}
 use Rattle.units.specs.Limits.{none}
-use Rattle.chain.specs.Time.{memory, disk}
-use Rattle.chain.specs.Working.Search.{Cost, back, toVerification, toMemory, toDisk, leastM, leastD, backM, backD, State}
+use Rattle.chain.specs.Working.Search.{toVerification, toMemory, leastM, leastD, backM, backD, State}
 use Rattle.chain.specs.Working.Walk.{Place, Before}
 use Rattle.job.specs.Job.{positions}
-use Rattle.search.specs.Working.Rows.{Filled}
+use Rattle.search.specs.Working.Bounds.{boundsIn, Bounding}
+use Rattle.search.specs.Working.Rows.{Row, Cut, LiveCopy, OnPlan}
 use Rattle.search.specs.Working.Table.{chainIn, Bounded}
 use Rattle.search.specs.declared.walk.Walk.{Walk}
 
--- a row of positions before, up to the position `top`
-pub record Backs (b : ℕ) (cost : Cost) (top : ℕ) (row : List ℕ) : Type 0 where
-  pub long : length row ≡ positions
-  pub backs : (v : ℕ) → v ≤ top → v ≢ b → getD row v 0 ≡ back none b cost v
+-- the disk row that the search has found: the least time of n tasks, and where that is below none, times and positions before of all disk copies that may be on
+-- the plan; and the bounds end with n
+pub record Found (t b : List ℕ) (n : ℕ) (time back-row : List ℕ) : Type 0 where
+  pub times-long : length time ≡ positions
+  pub backs-long : length back-row ≡ positions
+  pub least : getD time n 0 ≡ leastD (chainIn t) none n
+  pub times : leastD (chainIn t) none n < none → (v : ℕ) → v ≤ n → OnPlan t b n v → getD time v 0 ≡ leastD (chainIn t) none v
+  pub backs : leastD (chainIn t) none n < none → (v : ℕ) → v ≤ n → v ≢ 0 → OnPlan t b n v → getD back-row v 0 ≡ backD (chainIn t) none v
+  pub ends : boundsIn b .after n n ≡ 0
 
--- the positions before of the disk copies, up to n
-abbrev pub DiskBacks : List ℕ → ℕ → List ℕ → Type 0
-DiskBacks t n row = Backs 0 (toDisk (chainIn t) none) n row
+-- less than this is left from the disk copy d to the end
+abbrev pub leftFrom : List ℕ → (n d : ℕ) → ℕ
+leftFrom t n d = leastD (chainIn t) none n + 1 - leastD (chainIn t) none d
 
--- a step of the walk: v has mark k and the last copies before it are d and m, with the memory row from d and the positions before of the verifications from m
-pub record Walking (t : List ℕ) (w : Walk) : Type 0 where
+-- the memory row from d up to the position `top`, cut by what is left
+abbrev pub CopyRow : (t b : List ℕ) → (n d top : ℕ) → (times copies : List ℕ) → Type 0
+CopyRow t b n d top times copies = Cut none d (toMemory (chainIn t) none d) (LiveCopy t b d (leftFrom t n d)) top times copies
+
+-- the memory copy m after the disk copy d leaves room for what comes after
+abbrev pub HasRoom : (t b : List ℕ) → (n d m : ℕ) → Type 0
+HasRoom t b n d m = leastD (chainIn t) none d + leastM (chainIn t) none d m + boundsIn b .after d m ≤ leastD (chainIn t) none n
+
+-- a step of the walk: v has mark k and the last copies before it are d and m, with the memory row from d and the row of verifications from m
+pub record Walking (t b : List ℕ) (n : ℕ) (w : Walk) : Type 0 where
   pub state : State (chainIn t) none (w .k) (w .d) (w .m) (w .v)
-  pub copies : Filled none (w .d) (toMemory (chainIn t) none (w .d)) (w .v) (w .times) (w .copies)
-  pub checks : Backs (w .m) (toVerification (chainIn t) none (w .d) (w .m) (leastM (chainIn t) none (w .d) (w .m))) (w .v) (w .checks)
+  pub on-plan : OnPlan t b n (w .d)
+  pub room : HasRoom t b n (w .d) (w .m)
+  pub copies : CopyRow t b n (w .d) (w .v) (w .times) (w .copies)
+  pub checks : Row none (w .m) (toVerification (chainIn t) none (w .d) (w .m) (leastM (chainIn t) none (w .d) (w .m))) (w .v + 1) (w .checks)
 
 -- the place of a step
 abbrev pub placeOf : Walk → Place
 placeOf w = record { k = w .k; d = w .d; m = w .m; v = w .v }
 
 -- r is the step before w, at 0 where the walk is over
-pub record StepsBack (t : List ℕ) (w r : Walk) : Type 0 where
+pub record StepsBack (t b : List ℕ) (n : ℕ) (w r : Walk) : Type 0 where
   pub before : Before (chainIn t) none (placeOf w) (placeOf r)
-  pub walking : 0 < r .v → Walking t r
+  pub walking : 0 < r .v → Walking t b n r
 
 -- What each function of the walk asks, and the step that it gives.
-pub record ReadyAtCopy (t : List ℕ) (k d v : ℕ) (times copies : List ℕ) : Type 0 where
+pub record ReadyAtCopy (t : List ℕ) (d v : ℕ) (times copies : List ℕ) : Type 0 where
   pub bounded : Bounded v t
-  pub order : d < v
-  pub on-disk : leastD (chainIn t) none d < none
-  pub in-memory : leastM (chainIn t) none d v < none
-  pub low : memory ≤ k
-  pub high : k ≤ disk
-  pub is-d : disk ≤ k → d ≡ backD (chainIn t) none v
-  pub row : Filled none d (toMemory (chainIn t) none d) v times copies
+  pub from : d ≤ getD copies v 0
+  pub below : getD copies v 0 < v
+  pub reached : getD times (getD copies v 0) 0 ≤ none
 
-pub record AtCopy (t : List ℕ) (k d v : ℕ) (r : Walk) : Type 0 where
-  pub walking : Walking t r
+-- the row of verifications starts at the memory copy before v, with its time
+pub record RowsAt (t : List ℕ) (k d v : ℕ) (times copies : List ℕ) (r : Walk) : Type 0 where
+  pub is : r ≡ record { k = k; d = d; m = getD copies v 0; v = v; times = times; copies = copies; checks = r .checks }
+  pub checks : Row none (getD copies v 0) (toVerification (chainIn t) none d (getD copies v 0) (getD times (getD copies v 0) 0)) (v + 1) (r .checks)
+
+-- the step at the copy v with mark k, whose last disk copy is d
+pub record AtCopy (t b : List ℕ) (n k d v : ℕ) (r : Walk) : Type 0 where
+  pub walking : Walking t b n r
   pub k-is : r .k ≡ k
   pub d-is : r .d ≡ d
   pub m-is : r .m ≡ backM (chainIn t) none d v
   pub v-is : r .v ≡ v
 
-pub record ReadyAtDisk (t backs : List ℕ) (v : ℕ) : Type 0 where
-  pub bounded : Bounded v t
-  pub some-task : 0 < v
-  pub backs-row : DiskBacks t v backs
-  pub on-disk : leastD (chainIn t) none v < none
-
-pub record ReadyToStep (t backs : List ℕ) (w : Walk) : Type 0 where
-  pub bounded : Bounded (w .v) t
-  pub backs-row : DiskBacks t (w .v) backs
-  pub walking : Walking t w
-
-pub record ReadyToWalk (t : List ℕ) (n : ℕ) (backs : List ℕ) : Type 0 where
+pub record ReadyToWalk (t b : List ℕ) (n : ℕ) (time backs : List ℕ) : Type 0 where
   pub bounded : Bounded n t
+  pub bounding : Bounding n t b
   pub some-task : 0 < n
-  pub backs-row : DiskBacks t n backs
   pub in-time : leastD (chainIn t) none n < none
+  pub found : Found t b n time backs
+
+pub record ReadyAtDisk (t b : List ℕ) (n : ℕ) (time backs : List ℕ) (v : ℕ) : Type 0 where
+  pub ready : ReadyToWalk t b n time backs
+  pub some-task : 0 < v
+  pub within : v ≤ n
+  pub on-plan : OnPlan t b n v
+
+pub record ReadyToStep (t b : List ℕ) (n : ℕ) (time backs : List ℕ) (w : Walk) : Type 0 where
+  pub ready : ReadyToWalk t b n time backs
+  pub within : w .v ≤ n
+  pub walking : Walking t b n w

@@ -1,13 +1,13 @@
--- `planning::fill::fill` meets its contract. The loop's invariant: the stretches of the near ends before u have their factors. The measure is what is left of
--- the near ends. Assumes nothing.
+-- `planning::fill::fill` meets its contract. The loop's invariant: the stretches of the near ends before u have their factors. The measure is what is left of the near ends. Assumes nothing.
 use Prim.Native.Nat.{_+_, _-_, _≤_}
 use mathlib.Core.Path.{_≡_, sym, _∙_}
 use native.Mathlib.Omega.{arith}
+use Rattle.search.proofs.Tables.{firsts-put}
 use Rattle.planning.specs.Working.Fill.{PairsTo}
-use Rattle.planning.proofs.Fills.{pairs-none, table-of}
+use Rattle.planning.proofs.Fills.{pairs-none, table-firsts, table-of}
+use borrow.Author.Needs.{needs}
 use Rattle.planning.proofs.fill.fill.Statement.{statement}
 use Rattle.planning.proofs.fill.fill.Tie as tie
-use borrow.Author.Needs.{needs}
 
 abbrev Inv-loop : tie.InvT-loop
 Inv-loop t₀ powers job n sums u₀ t u = (u ≤ job .tasks) × PairsTo powers job u (u + 1) t
@@ -56,17 +56,27 @@ fill-costs-requires c κs =
     let pre = c .before .before .before .before .before .pre in
     let e : loop .u ≡ args .job .tasks = omega arith in record { sound = pre .sound; products = pre .products; filled = rw e at (loop .inv .1) }
 
+put-firsts-requires : tie.Need-put-firsts-requires Inv-loop μ-loop
+put-firsts-requires c κs =
+    let fill-costs = c .before .before .before .fill-costs in
+    let pre = c .before .before .before .before .before .before .before .before .before .pre in
+    record { long = fill-costs .ensures .long; few = omega (arith, pre .sound .few-tasks) }
+
 same-length : tie.Need-same-length Inv-loop μ-loop
 same-length c =
-    let fill-costs = c .before .before .fill-costs in
-    let pre = c .before .before .before .before .before .before .before .before .pre in
-    fill-costs .ensures .long ∙ sym (pre .long)
+    let put-firsts = c .before .before .put-firsts in
+    let fill-costs = c .before .before .before .before .before .before .fill-costs in
+    let pre = c .before .before .before .before .before .before .before .before .before .before .before .before .pre in
+    put-firsts .ensures .long ∙ fill-costs .ensures .long ∙ sym (pre .long)
 
 returns : tie.Need-returns Inv-loop μ-loop
 returns c =
-    let pre = c .before .before .before .before .before .before .before .before .pre in
-    let fill-costs = c .before .before .fill-costs in
-    table-of _ _ (pre .sound) (pre .products) _ (fill-costs .ensures)
+    let pre = c .before .before .before .before .before .before .before .before .before .before .before .before .pre in
+    let fill-costs = c .before .before .before .before .before .before .fill-costs in
+    let put-firsts = c .before .before .put-firsts in
+    table-of _ _ (pre .sound) (pre .products) _
+    (table-firsts _ _ _ _ _ (omega (arith, pre .sound .few-tasks)) (omega (arith, pre .sound .few-tasks)) (fill-costs .ensures) (put-firsts .ensures))
+    (firsts-put _ _ _ (put-firsts .ensures) _ (omega arith) (omega (arith, pre .sound .few-tasks)))
 
 pub fill-spec : {M : Type 1} → statement M
 fill-spec =
@@ -82,5 +92,6 @@ fill-spec =
     loop-less
     loop-again
     fill-costs-requires
+    put-firsts-requires
     same-length
     returns)

@@ -1,5 +1,5 @@
--- `planning::fill::fill_pairs` meets its contract. The loop's invariant: the stretches before (u, v) have their factors. The measure is what is left of the
--- positions. Assumes nothing.
+-- `planning::fill::fill_pairs` meets its contract. The loop's invariant: the stretches before (u, v) have their factors, if allowed. The measure is
+-- what is left of the positions. Assumes nothing.
 use Prim.Native.Nat.{_+_, _-_, _≤_, _<_}
 use mathlib.Core.Path.{sym, _∙_}
 use native.Mathlib.Omega.{arith}
@@ -25,28 +25,28 @@ loop-holds c =
     let pre = c .before .before .before .pre in
     (omega arith, omega (arith, pre .near), pre .filled)
 
-mul-energy-factors : tie.Need-mul-energy-factors Inv-loop μ-loop
-mul-energy-factors c =
+mul-factors-if-allowed : tie.Need-mul-factors-if-allowed Inv-loop μ-loop
+mul-factors-if-allowed c =
     let pre = c .before .before .before .before .before .pre in
     omega (arith, pre .sound .few-tasks)
 
-shared-slice-read-energy-factors : tie.Need-shared-slice-read-energy-factors Inv-loop μ-loop
-shared-slice-read-energy-factors c =
+shared-slice-read-factors-if-allowed : tie.Need-shared-slice-read-factors-if-allowed Inv-loop μ-loop
+shared-slice-read-factors-if-allowed c =
     let pre = c .before .before .before .before .before .before .pre in
     omega (arith, pre .totals .long, pre .sound .few-tasks)
 
-mul-energy-factors-2 : tie.Need-mul-energy-factors-2 Inv-loop μ-loop
-mul-energy-factors-2 c =
+mul-factors-if-allowed-2 : tie.Need-mul-factors-if-allowed-2 Inv-loop μ-loop
+mul-factors-if-allowed-2 c =
     let pre = c .before .before .before .before .before .before .pre in
     omega (arith, pre .near, pre .sound .few-tasks)
 
-shared-slice-read-energy-factors-2 : tie.Need-shared-slice-read-energy-factors-2 Inv-loop μ-loop
-shared-slice-read-energy-factors-2 c =
+shared-slice-read-factors-if-allowed-2 : tie.Need-shared-slice-read-factors-if-allowed-2 Inv-loop μ-loop
+shared-slice-read-factors-if-allowed-2 c =
     let pre = c .before .before .before .before .before .before .before .pre in
     omega (arith, pre .totals .long, pre .near, pre .sound .few-tasks)
 
-sub-energy-factors : tie.Need-sub-energy-factors Inv-loop μ-loop
-sub-energy-factors c =
+sub-factors-if-allowed : tie.Need-sub-factors-if-allowed Inv-loop μ-loop
+sub-factors-if-allowed c =
     let args = c .before .before .before .before .before .before .before .args in
     let pre = c .before .before .before .before .before .before .before .pre in
     let loop = c .before .before .before .loop in
@@ -55,8 +55,8 @@ sub-energy-factors c =
 v-at-requires : tie.Need-v-at-requires Inv-loop μ-loop
 v-at-requires c κs = search needs
 
-energy-factors-requires : tie.Need-energy-factors-requires Inv-loop μ-loop
-energy-factors-requires c κs =
+factors-if-allowed-requires : tie.Need-factors-if-allowed-requires Inv-loop μ-loop
+factors-if-allowed-requires c κs =
     let args = c .before .before .before .before .before .before .before .before .args in
     let pre = c .before .before .before .before .before .before .before .before .pre in
     let loop = c .before .before .before .before .loop in
@@ -68,10 +68,10 @@ put-pair-requires : tie.Need-put-pair-requires Inv-loop μ-loop
 put-pair-requires c κs =
     let loop = c .before .before .before .before .before .before .loop in
     let pre = c .before .before .before .before .before .before .before .before .before .before .pre in
-    let energy-factors = c .before .energy-factors in
+    let factors-if-allowed = c .before .factors-if-allowed in
     record {
       fits = record { long = loop .inv .2 .long; pair = record { order = loop .inv .0; few = omega (arith, pre .sound .few-tasks) } };
-      packable = rw (energy-factors .ensures) (factors-packable _ _ _ _);
+      packable = factors-packable _ _ _ _ _ (factors-if-allowed .ensures);
     }
 
 add-v-2 : tie.Need-add-v-2 Inv-loop μ-loop
@@ -88,10 +88,10 @@ loop-again c =
     let pre = c .before .before .before .before .before .before .before .before .before .before .before .before .before .pre in
     let loop = c .before .before .before .before .before .before .before .before .before .loop in
     let v-at = c .before .before .before .before .before .v-at in
-    let energy-factors = c .before .before .before .before .energy-factors in
+    let factors-if-allowed = c .before .before .before .before .factors-if-allowed in
     let put-pair = c .before .before .put-pair in
     let weighed = totals-between _ (args .job) (pre .sound) (pre .products) _ (pre .totals) (args .u) (loop .v) (loop .inv .0) (omega arith) in
-    let factors = rw (weighed .weight, v-at .ensures .value) at (energy-factors .ensures) in (
+    let factors = rw (weighed .weight, v-at .ensures .value) at (factors-if-allowed .ensures) in (
       omega arith,
       omega arith,
       rw (put-pair .ensures)
@@ -117,13 +117,13 @@ fill-pairs-spec =
     μ-loop
     add-v
     loop-holds
-    mul-energy-factors
-    shared-slice-read-energy-factors
-    mul-energy-factors-2
-    shared-slice-read-energy-factors-2
-    sub-energy-factors
+    mul-factors-if-allowed
+    shared-slice-read-factors-if-allowed
+    mul-factors-if-allowed-2
+    shared-slice-read-factors-if-allowed-2
+    sub-factors-if-allowed
     v-at-requires
-    energy-factors-requires
+    factors-if-allowed-requires
     put-pair-requires
     add-v-2
     loop-less

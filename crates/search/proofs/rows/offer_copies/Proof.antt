@@ -50,7 +50,7 @@ add-offer : tie.Need-add-offer Inv-loop μ-loop
 add-offer c =
     let pre = c .before .before .before .before .before .before .before .before .before .before .pre in
     let loop = c .before .before .before .before .loop in
-    omega (arith, pre .reached, pre .parts (loop .v) (omega arith))
+    omega (arith, pre .reached, pre .parts (loop .v) (loop .inv .0) (omega arith))
 
 mul-wide : tie.Need-mul-wide Inv-loop μ-loop
 mul-wide c =
@@ -70,7 +70,7 @@ add-offer-2 c =
     let pre = c .before .before .before .before .before .before .before .before .before .before .before .before .pre in
     let loop = c .before .before .before .before .before .before .loop in
     let wide = c .wide in
-    omega (arith, pre .reached, pre .parts (loop .v) (omega arith), wide .ensures .1)
+    omega (arith, pre .reached, pre .parts (loop .v) (loop .inv .0) (omega arith), wide .ensures .1)
 
 offer-requires : tie.Need-offer-requires Inv-loop μ-loop
 offer-requires c κs =

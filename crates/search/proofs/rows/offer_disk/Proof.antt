@@ -1,11 +1,8 @@
--- `search::rows::offer_disk` meets its contract. The row of memory copies from d is the theory's least M, and each v is offered that with the copy. Assumes
--- nothing.
-use mathlib.Core.Path.{refl}
+-- `search::rows::offer_disk` meets its contract. Each v is offered what the cut row of memory copies from d has, with the copy. Assumes nothing.
 use native.Mathlib.Omega.{arith}
-use Rattle.chain.proofs.Search.{reach-cap}
 use Rattle.search.specs.Working.Table.{cdStart}
 use Rattle.search.proofs.Tables.{column-part, length-column}
-use Rattle.search.proofs.Levels.{disk-arrival, offered-agree}
+use Rattle.search.proofs.Levels.{offered-agree}
 use borrow.Author.Needs.{needs}
 use Rattle.search.proofs.rows.offer_disk.Statement.{statement}
 use Rattle.search.proofs.rows.offer_disk.Tie as tie
@@ -17,13 +14,7 @@ slice-aggregate-memory-row-2 : tie.Need-slice-aggregate-memory-row-2
 slice-aggregate-memory-row-2 c = search needs
 
 memory-row-requires : tie.Need-memory-row-requires
-memory-row-requires c κs =
-    let pre = c .before .before .before .before .before .pre in
-    record {
-      fresh = record { times = refl; positions-before = refl };
-      bounded = pre .bounded;
-      start = pre .start;
-    }
+memory-row-requires c κs = search needs
 
 slice-aggregate-offer-copies : tie.Need-slice-aggregate-offer-copies
 slice-aggregate-offer-copies c = search needs
@@ -33,20 +24,18 @@ disk-copies-requires c κs = search needs
 
 offer-copies-requires : tie.Need-offer-copies-requires
 offer-copies-requires c κs =
-    let pre = c .before .before .before .before .before .before .before .before .before .before .before .before .pre in
+    let pre = c .before .before .before .before .before .before .before .before .before .before .before .before .before .pre in
     let memory-row = c .before .before .before .before .before .before .memory-row in
     let disk-copies = c .disk-copies in
-    let args = c .before .before .before .before .before .before .before .before .before .before .before .before .args in
+    let args = c .before .before .before .before .before .before .before .before .before .before .before .before .before .args in
     record {
       rows = pre .rows;
       part-long = memory-row .ensures .times-long;
       copies-long = rw (disk-copies .ensures) (length-column cdStart (args .t .now) (pre .bounded .long) (omega arith));
       start = pre .start;
       few = pre .bounded .few;
-      reached = omega (arith, pre .reached);
-      parts = λ w h. rw (memory-row .ensures .times w h) (reach-cap _ _ _ w);
-      costs = λ w h.
-          rw (disk-copies .ensures, column-part cdStart (args .t .now) w (omega (arith, pre .bounded .few))) (pre .bounded .cd w h);
+      reached = pre .reached;
+      parts = λ w a h. memory-row .ensures .capped w h;
     }
 
 same-length : tie.Need-same-length
@@ -57,12 +46,19 @@ same-length-2 c = search needs
 
 returns : tie.Need-returns
 returns c =
-    let disk-copies = c .before .before .before .before .before .disk-copies in
-    let pre = c .before .before .before .before .before .before .before .before .before .before .before .before .before .before .before .before .before .pre in
     let memory-row = c .before .before .before .before .before .before .before .before .before .before .before .memory-row in
+    let disk-copies = c .before .before .before .before .before .disk-copies in
+    let args = c .before .before .before .before .before .before .before .before .before .before .before .before .before .before .before .before .before .before .args in
+    let pre = c .before .before .before .before .before .before .before .before .before .before .before .before .before .before .before .before .before .before .pre in
     let offer-copies = c .before .before .before .before .offer-copies in
-    offered-agree _ _ _ _ _ _ _ _
-    (λ w a b. rw (disk-copies .ensures) (disk-arrival _ _ _ (pre .bounded .few) _ _ _ (memory-row .ensures) w (omega arith))) (offer-copies .ensures)
+    record {
+      copies = _;
+      froms = _;
+      row = memory-row .ensures;
+      offered =
+          offered-agree _ _ _ _ _ _ _ _
+          (λ w a b. rw (disk-copies .ensures, column-part cdStart (args .t .now) w (omega (arith, pre .bounded .few)))) (offer-copies .ensures);
+    }
 
 pub offer-disk-spec : {M : Type 1} → statement M
 offer-disk-spec =

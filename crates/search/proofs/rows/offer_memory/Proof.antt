@@ -1,10 +1,9 @@
 -- `search::rows::offer_memory` meets its contract. The row of verifications from m is the theory's least Q, and each v is offered that with the copy. Assumes
 -- nothing.
-use mathlib.Core.Path.{refl}
 use native.Mathlib.Omega.{arith}
 use Rattle.chain.proofs.Search.{reach-cap}
 use Rattle.search.specs.Working.Table.{cmStart}
-use Rattle.search.proofs.Tables.{column-part, length-column}
+use Rattle.search.proofs.Tables.{length-column}
 use Rattle.search.proofs.Levels.{table-row, memory-arrival, offered-agree}
 use borrow.Author.Needs.{needs}
 use Rattle.search.proofs.rows.offer_memory.Statement.{statement}
@@ -25,25 +24,14 @@ recoveries-requires c κs =
       m-few = omega (arith, pre .start, pre .bounded .few);
       rd = pre .bounded .rd _ (omega (arith, pre .disk, pre .start));
       rm = pre .bounded .rm _ (pre .start);
-      time = pre .reached;
+      time = omega (arith, pre .reached);
     }
 
 slice-aggregate-verification-row : tie.Need-slice-aggregate-verification-row
 slice-aggregate-verification-row c = search needs
 
-slice-aggregate-verification-row-2 : tie.Need-slice-aggregate-verification-row-2
-slice-aggregate-verification-row-2 c = search needs
-
 verification-row-requires : tie.Need-verification-row-requires
-verification-row-requires c κs =
-    let pre = c .before .before .before .before .before .before .before .pre in
-    let recoveries = c .before .before .recoveries in
-    record {
-      fresh = record { times = refl; positions-before = refl };
-      bounded = pre .bounded;
-      recoveries = recoveries .ensures .range;
-      start = pre .start;
-    }
+verification-row-requires c κs = search needs
 
 slice-aggregate-offer-copies : tie.Need-slice-aggregate-offer-copies
 slice-aggregate-offer-copies c = search needs
@@ -53,20 +41,18 @@ memory-copies-requires c κs = search needs
 
 offer-copies-requires : tie.Need-offer-copies-requires
 offer-copies-requires c κs =
-    let pre = c .before .before .before .before .before .before .before .before .before .before .before .before .before .before .pre in
-    let verification-row = c .before .before .before .before .before .before .verification-row in
+    let pre = c .before .before .before .before .before .before .before .before .before .before .before .before .pre in
+    let verification-row = c .before .before .before .before .before .verification-row in
     let memory-copies = c .memory-copies in
-    let args = c .before .before .before .before .before .before .before .before .before .before .before .before .before .before .args in
+    let args = c .before .before .before .before .before .before .before .before .before .before .before .before .args in
     record {
       rows = pre .rows;
-      part-long = verification-row .ensures .times-long;
+      part-long = verification-row .ensures .long;
       copies-long = rw (memory-copies .ensures) (length-column cmStart (args .t .now) (pre .bounded .long) (omega arith));
       start = pre .start;
       few = pre .bounded .few;
       reached = omega (arith, pre .reached);
-      parts = λ w h. rw (verification-row .ensures .times w h) (reach-cap _ _ _ w);
-      costs = λ w h.
-          rw (memory-copies .ensures, column-part cmStart (args .t .now) w (omega (arith, pre .bounded .few))) (pre .bounded .cm w h);
+      parts = λ w a h. rw (verification-row .ensures .times w (omega arith) (omega arith)) (reach-cap _ _ _ w);
     }
 
 same-length : tie.Need-same-length
@@ -77,14 +63,14 @@ same-length-2 c = search needs
 
 returns : tie.Need-returns
 returns c =
-    let recoveries = c .before .before .before .before .before .before .before .before .before .before .before .before .before .before .recoveries in
-    let verification-row = c .before .before .before .before .before .before .before .before .before .before .before .verification-row in
+    let recoveries = c .before .before .before .before .before .before .before .before .before .before .before .before .recoveries in
+    let verification-row = c .before .before .before .before .before .before .before .before .before .before .verification-row in
     let memory-copies = c .before .before .before .before .before .memory-copies in
-    let pre = c .before .before .before .before .before .before .before .before .before .before .before .before .before .before .before .before .before .before .before .pre in
+    let pre = c .before .before .before .before .before .before .before .before .before .before .before .before .before .before .before .before .before .pre in
     let offer-copies = c .before .before .before .before .offer-copies in
-    let row = table-row _ _ _ _ _ _ (recoveries .ensures .value) _ _ (verification-row .ensures) in
+    let row = table-row _ _ _ _ _ _ (recoveries .ensures .value) _ (verification-row .ensures) in
     offered-agree _ _ _ _ _ _ _ _
-    (λ w a b. rw (memory-copies .ensures) (memory-arrival _ _ _ (pre .bounded .few) _ _ _ _ row w (omega arith))) (offer-copies .ensures)
+    (λ w a b. rw (memory-copies .ensures) (memory-arrival _ _ _ (omega (arith, pre .bounded .few)) _ _ _ row w a b)) (offer-copies .ensures)
 
 pub offer-memory-spec : {M : Type 1} → statement M
 offer-memory-spec =
@@ -94,7 +80,6 @@ offer-memory-spec =
     slice-read-recoveries
     recoveries-requires
     slice-aggregate-verification-row
-    slice-aggregate-verification-row-2
     verification-row-requires
     slice-aggregate-offer-copies
     memory-copies-requires

@@ -1,69 +1,68 @@
--- `search::rows::verification_row` meets its contract. The loop's invariant: the row has had the offers of the positions before u. The measure is what is left
--- of the positions. Assumes nothing.
-use Prim.Native.Nat.{ℕ, _-_, _≤_}
-use mathlib.Core.Path.{refl, sym, _∙_}
-use mathlib.Core.Logic.{⊎-elim}
+-- `search::rows::verification_row` meets its contract. The loop's invariant: the entries before v are least times. The measure is what is left of the positions.
+-- Assumes nothing.
+use Prim.Native.Nat.{_+_, _-_, _≤_, _<_}
+use mathlib.Core.Path.{_≡_, sym, _∙_}
 use native.Mathlib.Omega.{arith}
-use lib.ListN.{length-replicate}
 use Rattle.units.specs.Limits.{none}
-use Rattle.job.specs.Job.{positions}
+use Rattle.search.specs.Working.Rows.{Row}
 use Rattle.search.specs.Working.Table.{arrivalAt}
-use Rattle.search.proofs.Turns.{Turn, turn-first, turn-cap, turn-none, turn-offers, turn-last}
+use Rattle.search.proofs.Tables.{bounded-less}
+use Rattle.search.proofs.Verifications.{row-first, row-next}
 use Rattle.search.proofs.rows.verification_row.Statement.{statement}
 use Rattle.search.proofs.rows.verification_row.Tie as tie
 
 abbrev Inv-loop : tie.InvT-loop
-Inv-loop time₀ backs₀ t m top r u₀ time backs u = (m ≤ u) × (u ≤ top) × Turn none m (arrivalAt t r) top u time backs
+Inv-loop time₀ t m top r v₀ time v = (m < v) × (v ≤ top + 1) × Row none m (arrivalAt t r) v time
 
 abbrev μ-loop : tie.MeasureT-loop
-μ-loop time₀ backs₀ t m top r u₀ time backs u = top - u
+μ-loop time₀ t m top r v₀ time v = (top + 1) - v
 
 mul-time : tie.Need-mul-time Inv-loop μ-loop
 mul-time c =
-    let pre = c .before .before .before .pre in
+    let pre = c .before .before .pre in
     omega (arith, pre .start, pre .bounded .few)
 
 slice-write-time : tie.Need-slice-write-time Inv-loop μ-loop
 slice-write-time c =
-    let pre = c .before .before .before .pre in
-    rw (pre .fresh .times, length-replicate) (omega (arith, pre .start, pre .bounded .few))
+    let pre = c .before .before .pre in
+    omega (arith, pre .start, pre .bounded .few, pre .long)
+
+add-v : tie.Need-add-v Inv-loop μ-loop
+add-v c =
+    let pre = c .before .before .pre in
+    omega (arith, pre .start, pre .bounded .few)
 
 loop-holds : tie.Need-loop-holds Inv-loop μ-loop
 loop-holds c =
-    let pre = c .before .before .before .pre in (
-      omega arith,
-      pre .start,
-      turn-first _ _ _ _ (pre .start) (pre .bounded .few) _ _ (pre .fresh .times) (pre .fresh .positions-before),
-    )
+    let pre = c .before .before .pre in
+    let args = c .before .before .args in
+    (omega arith, omega (arith, pre .start), row-first _ _ _ (args .time .now) (pre .long) (omega (arith, pre .start, pre .bounded .few)))
 
-mul-if1 : tie.Need-mul-if1 Inv-loop μ-loop
-mul-if1 c =
+verified-requires : tie.Need-verified-requires Inv-loop μ-loop
+verified-requires c κs =
     let pre = c .before .before .before .before .before .pre in
-    omega (arith, pre .bounded .few)
-
-slice-read-if1 : tie.Need-slice-read-if1 Inv-loop μ-loop
-slice-read-if1 c =
     let loop = c .before .before .loop in
-    let pre = c .before .before .before .before .before .before .pre in
-    omega (arith, loop .inv .2 .times-long, pre .bounded .few)
-
-offer-verifications-requires : tie.Need-offer-verifications-requires Inv-loop μ-loop
-offer-verifications-requires c κs =
-    let loop = c .before .before .before .before .before .loop in
-    let pre = c .before .before .before .before .before .before .before .before .before .pre in
-    let if1 = c .before .before .if1 in
     record {
-      rows = record { times-long = loop .inv .2 .times-long; backs-long = loop .inv .2 .backs-long };
-      bounded = pre .bounded;
+      bounded = bounded-less _ _ _ (omega arith) (pre .bounded);
       recoveries = pre .recoveries;
-      start = loop .inv .1;
-      reached = if1 .taken;
-      capped = turn-cap _ _ _ _ _ _ _ (loop .inv .2);
+      order = loop .inv .0;
+      row = loop .inv .2;
     }
 
-add-u : tie.Need-add-u Inv-loop μ-loop
-add-u c =
-    let pre = c .before .before .before .before .before .before .before .pre in
+mul-time-2 : tie.Need-mul-time-2 Inv-loop μ-loop
+mul-time-2 c =
+    let pre = c .before .before .before .before .before .before .pre in
+    omega (arith, pre .bounded .few)
+
+slice-write-time-2 : tie.Need-slice-write-time-2 Inv-loop μ-loop
+slice-write-time-2 c =
+    let pre = c .before .before .before .before .before .before .pre in
+    let loop = c .before .before .before .loop in
+    omega (arith, pre .bounded .few, loop .inv .2 .long)
+
+add-v-2 : tie.Need-add-v-2 Inv-loop μ-loop
+add-v-2 c =
+    let pre = c .before .before .before .before .before .before .pre in
     omega (arith, pre .bounded .few)
 
 loop-less : tie.Need-loop-less Inv-loop μ-loop
@@ -72,28 +71,22 @@ loop-less c = omega arith
 loop-again : tie.Need-loop-again Inv-loop μ-loop
 loop-again c =
     let loop = c .before .before .before .loop in
-    let if1 = c .if1 in
-    ⊎-elim
-    (λ w. (omega arith, omega arith, rw (w .8, w .9) (turn-offers _ _ _ _ _ _ _ (loop .inv .2) (loop .inv .0) (loop .inv .1) (w .0 .taken) _ _ _ (λ v a b. refl) (w .3 .ensures))))
-    (λ w. (omega arith, omega arith, rw (w .1, w .2) (turn-none _ _ _ _ _ _ _ (loop .inv .2) (loop .inv .0) (loop .inv .1) (w .0 .left))))
-    (if1 .came)
+    let pre = c .before .before .before .before .before .before .pre in
+    let verified = c .verified in
+    (omega arith, omega arith, row-next _ _ _ _ _ _ (loop .inv .2) (omega (arith, pre .bounded .few)) (verified .ensures))
 
 same-length : tie.Need-same-length Inv-loop μ-loop
 same-length c =
     let loop = c .before .loop in
-    let pre = c .before .before .before .before .before .pre in
-    loop .inv .2 .times-long ∙ rw (pre .fresh .times) (sym (length-replicate positions none))
-
-same-length-2 : tie.Need-same-length-2 Inv-loop μ-loop
-same-length-2 c =
-    let loop = c .before .loop in
-    let pre = c .before .before .before .before .before .pre in
-    loop .inv .2 .backs-long ∙ rw (pre .fresh .positions-before) (sym (length-replicate {A = ℕ} positions 0))
+    let pre = c .before .before .before .before .pre in
+    loop .inv .2 .long ∙ sym (pre .long)
 
 returns : tie.Need-returns Inv-loop μ-loop
 returns c =
     let loop = c .before .loop in
-    turn-last _ _ _ _ _ _ _ (loop .inv .2) (omega arith)
+    let args = c .before .before .before .before .args in
+    let e : loop .v ≡ args .top + 1 = omega arith in
+    rw e at (loop .inv .2)
 
 pub verification-row-spec : {M : Type 1} → statement M
 verification-row-spec =
@@ -103,13 +96,13 @@ verification-row-spec =
     μ-loop
     mul-time
     slice-write-time
+    add-v
     loop-holds
-    mul-if1
-    slice-read-if1
-    offer-verifications-requires
-    add-u
+    verified-requires
+    mul-time-2
+    slice-write-time-2
+    add-v-2
     loop-less
     loop-again
     same-length
-    same-length-2
     returns)

@@ -1,7 +1,10 @@
--- `search::walk::at_disk` meets its contract. The disk row names d, and the memory row from d up to v is filled anew. Assumes nothing.
+-- `search::walk::at_disk` meets its contract. The disk row names d, and the memory row from d up to v is filled anew, cut by what the plan leaves from d to the end.
+-- Assumes nothing.
 use mathlib.Core.Path.{refl}
 use native.Mathlib.Omega.{arith}
-use Rattle.search.proofs.Backs.{disk-before, disk-range}
+use Rattle.search.proofs.Backs.{copy-range, copy-step, disk-range}
+use Rattle.search.proofs.Ranges.{bounding-less}
+use Rattle.search.proofs.Tables.{bounded-less}
 use Rattle.search.proofs.walk.at_disk.Statement.{statement}
 use Rattle.search.proofs.walk.at_disk.Tie as tie
 use borrow.Author.Needs.{needs}
@@ -12,6 +15,35 @@ mul-d c = search needs
 shared-slice-read-d : tie.Need-shared-slice-read-d
 shared-slice-read-d c = search needs
 
+mul-left : tie.Need-mul-left
+mul-left c = search needs
+
+shared-slice-read-left : tie.Need-shared-slice-read-left
+shared-slice-read-left c = search needs
+
+add-left : tie.Need-add-left
+add-left c =
+    let pre = c .before .before .before .before .before .before .pre in
+    omega (arith, pre .ready .found .least, pre .ready .in-time)
+
+mul-left-2 : tie.Need-mul-left-2
+mul-left-2 c =
+    let pre = c .before .before .before .before .before .before .pre in
+    let range = disk-range _ _ _ _ _ (pre .ready) _ (pre .some-task) (pre .within) (pre .on-plan) in
+    omega (arith, range .below, pre .within, pre .ready .bounded .few)
+
+shared-slice-read-left-2 : tie.Need-shared-slice-read-left-2
+shared-slice-read-left-2 c =
+    let pre = c .before .before .before .before .before .before .before .pre in
+    let range = disk-range _ _ _ _ _ (pre .ready) _ (pre .some-task) (pre .within) (pre .on-plan) in
+    omega (arith, range .below, pre .within, pre .ready .bounded .few, pre .ready .found .times-long)
+
+sub-left : tie.Need-sub-left
+sub-left c =
+    let pre = c .before .before .before .before .before .before .before .pre in
+    let range = disk-range _ _ _ _ _ (pre .ready) _ (pre .some-task) (pre .within) (pre .on-plan) in
+    omega (arith, range .time, range .room, pre .ready .found .least)
+
 slice-aggregate-memory-row : tie.Need-slice-aggregate-memory-row
 slice-aggregate-memory-row c = search needs
 
@@ -20,32 +52,39 @@ slice-aggregate-memory-row-2 c = search needs
 
 memory-row-requires : tie.Need-memory-row-requires
 memory-row-requires c κs =
-    let pre = c .before .before .before .before .before .pre in
-    let range = disk-range _ _ _ (pre .backs-row) (pre .some-task) (pre .on-disk) in
-    record { fresh = record { times = refl; positions-before = refl }; bounded = pre .bounded; start = omega (arith, range .below) }
+    let pre = c .before .before .before .before .before .before .before .before .before .pre in
+    let range = disk-range _ _ _ _ _ (pre .ready) _ (pre .some-task) (pre .within) (pre .on-plan) in
+    record {
+      fresh = record { times = refl; positions-before = refl };
+      bounded = bounded-less _ _ _ (pre .within) (pre .ready .bounded);
+      bounding = bounding-less _ _ _ _ (pre .within) (pre .ready .bounding);
+      start = omega (arith, range .below);
+      room = omega (arith, pre .ready .found .least, pre .ready .in-time);
+    }
 
 at-copy-requires : tie.Need-at-copy-requires
 at-copy-requires c κs =
-    let pre = c .before .before .before .before .before .before .before .before .pre in
+    let pre = c .before .before .before .before .before .before .before .before .before .before .before .before .pre in
     let memory-row = c .before .before .memory-row in
-    let range = disk-range _ _ _ (pre .backs-row) (pre .some-task) (pre .on-disk) in
+    let disk = disk-range _ _ _ _ _ (pre .ready) _ (pre .some-task) (pre .within) (pre .on-plan) in
+    let row = rw (pre .ready .found .least, disk .time) at (memory-row .ensures) in
+    let range = copy-range _ _ _ _ _ (pre .ready) _ _ _ _ row (disk .below) (pre .within) (disk .room) in
     record {
-      bounded = pre .bounded;
-      order = range .below;
-      on-disk = range .on-disk;
-      in-memory = range .in-memory;
-      low = omega arith;
-      high = omega arith;
-      is-d = λ _. disk-before _ _ _ (pre .backs-row) (pre .some-task);
-      row = memory-row .ensures;
+      bounded = bounded-less _ _ _ (pre .within) (pre .ready .bounded);
+      from = range .from;
+      below = range .below;
+      reached = omega (arith, range .time, range .reached);
     }
 
 returns : tie.Need-returns
 returns c =
-    let pre = c .before .before .before .before .before .before .before .before .before .pre in
+    let pre = c .before .before .before .before .before .before .before .before .before .before .before .before .before .pre in
+    let memory-row = c .before .before .before .memory-row in
     let at-copy = c .at-copy in
-    let back = disk-before _ _ _ (pre .backs-row) (pre .some-task) in
-    rw (← back) (at-copy .ensures)
+    let disk = disk-range _ _ _ _ _ (pre .ready) _ (pre .some-task) (pre .within) (pre .on-plan) in
+    let row = rw (pre .ready .found .least, disk .time) at (memory-row .ensures) in
+    rw (← disk .is)
+    (copy-step _ _ _ _ _ (pre .ready) _ _ _ _ row (disk .below) (pre .within) (disk .room) _ _ (omega arith) (omega arith) (λ _. disk .is) (disk .on-plan) (at-copy .ensures))
 
 pub at-disk-spec : {M : Type 1} → statement M
 at-disk-spec =
@@ -53,6 +92,12 @@ at-disk-spec =
     (tie.spec
     mul-d
     shared-slice-read-d
+    mul-left
+    shared-slice-read-left
+    add-left
+    mul-left-2
+    shared-slice-read-left-2
+    sub-left
     slice-aggregate-memory-row
     slice-aggregate-memory-row-2
     memory-row-requires

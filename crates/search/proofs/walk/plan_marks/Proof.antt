@@ -2,27 +2,26 @@
 -- measure is w.v. Assumes nothing.
 use native.Mathlib.Omega.{arith}
 use Rattle.chain.proofs.Placing.{placed-last}
-use Rattle.search.proofs.Backs.{backs-less, PlacedAt, placed-first, placed-next}
-use Rattle.search.proofs.Tables.{bounded-less}
+use Rattle.search.proofs.Backs.{plan-end, PlacedAt, placed-first, placed-next}
 use Rattle.search.proofs.walk.plan_marks.Statement.{statement}
 use Rattle.search.proofs.walk.plan_marks.Tie as tie
 
 abbrev Inv-loop : tie.InvT-loop
-Inv-loop t backs n marks₀ w₀ marks w = PlacedAt t n w marks
+Inv-loop t b time backs n marks₀ w₀ marks w = PlacedAt t b n w marks
 
 abbrev μ-loop : tie.MeasureT-loop
-μ-loop t backs n marks₀ w₀ marks w = w .v
+μ-loop t b time backs n marks₀ w₀ marks w = w .v
 
 at-disk-requires : tie.Need-at-disk-requires Inv-loop μ-loop
 at-disk-requires c κs =
-    let pre = c .before .before .pre in
-    record { bounded = pre .bounded; some-task = pre .some-task; backs-row = pre .backs-row; on-disk = pre .in-time }
+    let pre = c .before .before .before .before .pre in
+    record { ready = pre; some-task = pre .some-task; within = omega arith; on-plan = plan-end _ _ _ _ _ pre }
 
 loop-holds : tie.Need-loop-holds Inv-loop μ-loop
 loop-holds c =
-    let pre = c .before .before .before .pre in
+    let pre = c .before .before .before .before .before .pre in
     let at-disk = c .at-disk in
-    placed-first _ _ _ (omega (arith, pre .bounded .few)) (at-disk .ensures)
+    placed-first _ _ _ _ (omega (arith, pre .bounded .few)) (at-disk .ensures)
 
 sub-marks : tie.Need-sub-marks Inv-loop μ-loop
 sub-marks c =
@@ -32,19 +31,15 @@ sub-marks c =
 array-write-marks : tie.Need-array-write-marks Inv-loop μ-loop
 array-write-marks c =
     let loop = c .before .before .loop in
-    let pre = c .before .before .before .before .before .before .pre in
+    let pre = c .before .before .before .before .before .before .before .before .pre in
     omega (arith, loop .inv .placed .within, pre .bounded .few)
 
 step-back-requires : tie.Need-step-back-requires Inv-loop μ-loop
 step-back-requires c κs =
+    let pre = c .before .before .before .before .before .before .before .before .pre in
     let loop = c .before .before .loop in
-    let pre = c .before .before .before .before .before .before .pre in
     let if1 = c .if1 in
-    record {
-      bounded = bounded-less _ _ _ (loop .inv .placed .within) (pre .bounded);
-      backs-row = backs-less _ _ _ _ _ (loop .inv .placed .within) (pre .backs-row);
-      walking = loop .inv .walking (if1 .taken);
-    }
+    record { ready = pre; within = loop .inv .placed .within; walking = loop .inv .walking (if1 .taken) }
 
 loop-less : tie.Need-loop-less Inv-loop μ-loop
 loop-less c =
@@ -56,7 +51,7 @@ loop-again c =
     let loop = c .before .before .before .loop in
     let if1 = c .before .if1 in
     let step-back = c .step-back in
-    placed-next _ _ _ _ _ (loop .inv) (if1 .taken) (step-back .ensures)
+    placed-next _ _ _ _ _ _ (loop .inv) (if1 .taken) (step-back .ensures)
 
 returns : tie.Need-returns Inv-loop μ-loop
 returns c =

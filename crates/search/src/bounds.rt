@@ -1,0 +1,79 @@
+// The table of bounds on what is still to come. In a square of positions, `after` stands on and above the diagonal and `part` below it; then a column for
+// `time` and one for `risk`. What they bound, and why copies may be left out by them, stands in the theory of chains.
+ghost use mathlib.Core.Path.{_≡_};
+ghost use Prim.Native.Nat.{_-_, min};
+ghost use Rattle.chain.specs.Working.Bounds.{slope};
+ghost use Rattle.search.specs.Working.Bounds.{boundsIn, PlacesFit, ReadyForLow, LowIs};
+ghost use Rattle.search.specs.Working.Stages.{ReadyForSince, SinceIs};
+use crate::table::disk_recovery;
+use crate::table::memory_copy;
+use job::POSITIONS;
+use units::rounded_up;
+
+pub const TIME_START: usize = POSITIONS * POSITIONS;
+
+pub const RISK_START: usize = TIME_START + POSITIONS;
+
+pub const BOUNDS_LENGTH: usize = RISK_START + POSITIONS;
+
+// The most that a difference of risks counts, so that no product wraps.
+const SLOPE_CAP: u64 = 1 << 28;
+
+pub fn lesser(a: u64, b: u64) -> u64
+    ensures { λ r. ⌜ r ≡ min a b ⌝ }
+{
+    if a < b {
+        return a;
+    }
+    b
+}
+
+// a - b, and 0 where b is more.
+pub fn excess(a: u64, b: u64) -> u64
+    ensures { λ r. ⌜ r ≡ a - b ⌝ }
+{
+    if a < b {
+        return 0;
+    }
+    a - b
+}
+
+// What is still to come after a memory copy u, with the last disk copy d.
+pub fn after(b: &[u64], d: usize, u: usize) -> u64
+    requires { ⌜ PlacesFit (now b) d u ⌝ }
+    ensures { λ r. ⌜ r ≡ boundsIn (now (b .entry)) .after d u ⌝ }
+{
+    b[POSITIONS * d + u]
+}
+
+// From the memory copy u to a verification at v, without the recovery from disk.
+pub fn part(b: &[u64], u: usize, v: usize) -> u64
+    requires { ⌜ PlacesFit (now b) u v ⌝ }
+    ensures { λ r. ⌜ r ≡ boundsIn (now (b .entry)) .part u v ⌝ }
+{
+    b[POSITIONS * v + u]
+}
+
+// What a tick of recovery from disk adds at least between u and v, in units.
+pub fn slope(b: &[u64], u: usize, v: usize) -> u64
+    requires { ⌜ PlacesFit (now b) u v ⌝ }
+    ensures { λ r. ⌜ r ≡ slope (boundsIn (now (b .entry))) u v ⌝ }
+{
+    lesser(SLOPE_CAP, excess(b[RISK_START + v], b[RISK_START + u]))
+}
+
+// From the memory copy u to that at v, with R_D' + M' = x.
+pub fn part_low(b: &[u64], t: &[u32], u: usize, x: u64, v: usize) -> u64
+    requires { ⌜ ReadyForLow (now b) (now t) u x v ⌝ }
+    ensures { λ r. ⌜ LowIs (now (b .entry)) (now (t .entry)) u x v r ⌝ }
+{
+    part(b, u, v) + rounded_up(slope(b, u, v) * x) + memory_copy(t, v)
+}
+
+// Not more than R_D' + M' at u with the last disk copy d, by the times of both.
+pub fn since(b: &[u64], t: &[u32], d: usize, u: usize) -> u64
+    requires { ⌜ ReadyForSince (now b) (now t) d u ⌝ }
+    ensures { λ r. ⌜ SinceIs (now (b .entry)) (now (t .entry)) d u r ⌝ }
+{
+    disk_recovery(t, d) + excess(b[TIME_START + u], b[TIME_START + d])
+}
