@@ -20,7 +20,26 @@ use Rattle.chain.specs.declared.Recoveries.{Recoveries}
 use Rattle.chain.proofs.Search.{reach-start, reach-cap, reach-lower}
 use Rattle.job.specs.Job.{positions}
 use Rattle.search.specs.Working.Bounds.{timeStart, riskStart, boundsLength, boundsIn, apartIn}
-use Rattle.search.specs.Working.Stages.{Parts, Steps, since, After, Stage, Column, PutParts, LeastTime, LeastRisk, aheadLength, Ahead, LeastAfter, OwnIs, StoppedIs, BoundsOf, ReadyForSince, ReadyForAfter, ReadyForOwn}
+use Rattle.search.specs.Working.Stages.{
+  Parts,
+  Steps,
+  since,
+  After,
+  Stage,
+  Column,
+  PutParts,
+  LeastTime,
+  LeastRisk,
+  aheadLength,
+  Ahead,
+  LeastAfter,
+  OwnIs,
+  StoppedIs,
+  BoundsOf,
+  ReadyForSince,
+  ReadyForAfter,
+  ReadyForOwn,
+}
 use Rattle.search.specs.Working.Rows.{Row}
 use Rattle.search.specs.Working.Table.{cmStart, cdStart, rmStart, column, entryOf, chainIn, arrivalAt}
 use Rattle.search.proofs.Ranges.{slope-cap}

@@ -272,7 +272,8 @@ module _ (t : List ℕ) (e : ℕ) (t' : List ℕ) (put : FirstsPut t e t') where
 pub firsts-none : (t : List ℕ) → FirstsPut t 0 t
 firsts-none t = record { long = refl; others = λ i h. refl; firsts = λ v h. absurd (omega arith) }
 
-pub firsts-more : (t : List ℕ) (v : ℕ) (t' : List ℕ) (r : ℕ) → FirstsPut t v t' → length t ≡ tableLength → v < positions → FirstIs t' v r → FirstsPut t (v + 1) (set t' (firstStart + v) r)
+pub firsts-more : (t : List ℕ) (v : ℕ) (t' : List ℕ) (r : ℕ) → FirstsPut t v t' → length t ≡ tableLength → v < positions → FirstIs t' v r
+    → FirstsPut t (v + 1) (set t' (firstStart + v) r)
 unfolding column
 firsts-more t v t' r put long few is =
     record {

@@ -2,6 +2,7 @@
 
 use crate::bounded;
 use crate::stretch::UNIT;
+use compare::harness::jobs::largest;
 use compare::random::Random;
 use compare::reference::sheet;
 use compare::sheet_writer;
@@ -152,21 +153,6 @@ fn many_copies(r: &mut Random, n: usize) -> Job {
     Job::new(platform, &uneven(r, n, mean))
 }
 
-/// The largest cost that meets a condition, or 0, where none above one that
-/// fails it does.
-fn largest(meets: impl Fn(u64) -> bool) -> u64 {
-    let (mut low, mut high) = (0, MAX_TICKS);
-    while low < high {
-        let middle = (low + high).div_ceil(2);
-        if meets(middle) {
-            low = middle;
-        } else {
-            high = middle - 1;
-        }
-    }
-    low
-}
-
 /// Costs with which the plan takes about 2^34 ticks, a few percent more or
 /// less: the largest that are not too slow, changed a little.
 fn near_limit(r: &mut Random, n: usize) -> Job {
@@ -178,7 +164,7 @@ fn near_limit(r: &mut Random, n: usize) -> Job {
         let (cd, cm, v) = (cost as u32, (cost / 2) as u32, (cost / 4) as u32);
         Job::new(Platform { failstop, silent, cd, cm, v, rd: cd, rm: cm }, &weights)
     };
-    let edge = largest(|cost| bounded::plan(&with(cost)).is_some());
+    let edge = largest(MAX_TICKS, |cost| bounded::plan(&with(cost)).is_some());
     with((edge * r.between(94, 102) / 100).min(MAX_TICKS))
 }
 

@@ -12,6 +12,7 @@ use crate::types::{Job, Platform, MAX_TASKS};
 pub use billed::{at_energy_limit, billed};
 pub use dearer::{costs, dearer};
 pub use partners::{light, partner};
+pub use values::largest;
 use values::{any_costs, any_rates, any_weights, rate_for, split, total, MAX_TICKS};
 
 /// The reference takes its time over more tasks than these, so that few such

@@ -28,8 +28,12 @@ slice-write-b-2 c =
 loop-holds : tie.Need-loop-holds Inv-loop μ-loop
 loop-holds c =
     let pre = c .before .before .pre in
-    let args = c .before .before .args in
-    (omega arith, omega arith, parts-past _ _ _ (parts-past _ _ _ (pre .parts) (pre .bounded .few) _ _ (omega arith)) (pre .bounded .few) _ _ (omega arith), steps-first _ (args .b .now) (pre .parts .long))
+    let args = c .before .before .args in (
+      omega arith,
+      omega arith,
+      parts-past _ _ _ (parts-past _ _ _ (pre .parts) (pre .bounded .few) _ _ (omega arith)) (pre .bounded .few) _ _ (omega arith),
+      steps-first _ (args .b .now) (pre .parts .long),
+    )
 
 least-time-requires : tie.Need-least-time-requires Inv-loop μ-loop
 least-time-requires c κs =

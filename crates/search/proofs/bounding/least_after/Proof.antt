@@ -1,5 +1,6 @@
 -- `search::bounding::least_after` meets its contract. The loop's invariant: `best` is at most each candidate before v. The measure is what is left of the positions. Assumes nothing.
-use Prim.Native.Nat.{_+_, _-_, _*_, _≤_, _<_}
+use Prim.Native.Nat.{ℕ, _+_, _-_, _*_, _≤_, _<_}
+use mathlib.Core.List.{List}
 use native.Mathlib.Omega.{arith}
 use lib.ListN.{getD}
 use Rattle.units.specs.Unit.{up}
@@ -11,8 +12,12 @@ use borrow.Author.Needs.{needs}
 use Rattle.search.proofs.bounding.least_after.Statement.{statement}
 use Rattle.search.proofs.bounding.least_after.Tie as tie
 
+-- what comes after u by the memory copy w
+abbrev candidate : (ahead b : List ℕ) → (d x w : ℕ) → ℕ
+candidate ahead b d x w = getD ahead (2 * w) 0 + up (getD ahead (2 * w + 1) 0 * x) + boundsIn b .after d w
+
 abbrev Inv-loop : tie.InvT-loop
-Inv-loop ahead b d x u n best₀ v₀ best v = (u < v) × (v ≤ n + 1) × (best ≤ none) × AtMost (λ w. u < w) (λ w. getD ahead (2 * w) 0 + up (getD ahead (2 * w + 1) 0 * x) + boundsIn b .after d w) v best
+Inv-loop ahead b d x u n best₀ v₀ best v = (u < v) × (v ≤ n + 1) × (best ≤ none) × AtMost (λ w. u < w) (candidate ahead b d x) v best
 
 abbrev μ-loop : tie.MeasureT-loop
 μ-loop ahead b d x u n best₀ v₀ best v = (n + 1) - v
@@ -92,7 +97,9 @@ add-lesser-2 c =
     let after = c .after in
     let pre = c .before .before .before .before .before .before .before .before .pre in
     let loop = c .before .before .before .before .before .loop in
-    rw (rounded-up .ensures, after .ensures) (omega (arith, pre .parts (loop .v) (loop .inv .0) (omega arith), pre .afters (loop .v) (loop .inv .0) (omega arith), recovery-cap _ _ (pre .slopes (loop .v) (loop .inv .0) (omega arith)) (pre .recovery)))
+    let recovery = recovery-cap _ _ (pre .slopes (loop .v) (loop .inv .0) (omega arith)) (pre .recovery) in
+    rw (rounded-up .ensures, after .ensures)
+    (omega (arith, pre .parts (loop .v) (loop .inv .0) (omega arith), pre .afters (loop .v) (loop .inv .0) (omega arith), recovery))
 
 lesser-requires : tie.Need-lesser-requires Inv-loop μ-loop
 lesser-requires c κs = search needs
@@ -111,8 +118,14 @@ loop-again c =
     let args = c .before .before .before .before .before .before .before .before .before .args in
     let loop = c .before .before .before .before .before .before .loop in
     let rounded-up = c .before .before .rounded-up in
-    let after = c .before .after in
-    (omega arith, omega arith, omega (arith, lesser .ensures), rw (lesser .ensures) (at-most-next (λ w. args .u < w) (λ w. getD (args .ahead .now) (2 * w) 0 + up (getD (args .ahead .now) (2 * w + 1) 0 * args .x) + boundsIn (args .b .now) .after (args .d) w) _ _ (loop .inv .3) _ (λ _. rw (rounded-up .ensures, after .ensures))))
+    let after = c .before .after in (
+      omega arith,
+      omega arith,
+      omega (arith, lesser .ensures),
+      rw (lesser .ensures)
+          (at-most-next (λ w. args .u < w) (candidate (args .ahead .now) (args .b .now) (args .d) (args .x)) _ _ (loop .inv .3) _
+          (λ _. rw (rounded-up .ensures, after .ensures))),
+    )
 
 returns : tie.Need-returns Inv-loop μ-loop
 returns c =

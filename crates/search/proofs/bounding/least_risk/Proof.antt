@@ -1,5 +1,6 @@
 -- `search::bounding::least_risk` meets its contract. The loop's invariant: `best` is at most each candidate before u. The measure is what is left of the positions. Assumes nothing.
-use Prim.Native.Nat.{_+_, _-_, _≤_}
+use Prim.Native.Nat.{ℕ, _+_, _-_, _≤_}
+use mathlib.Core.List.{List}
 use mathlib.Core.Path.{_≡_}
 use mathlib.Core.Bool.{true}
 use native.Mathlib.Omega.{arith}
@@ -11,8 +12,12 @@ use borrow.Author.Needs.{needs}
 use Rattle.search.proofs.bounding.least_risk.Statement.{statement}
 use Rattle.search.proofs.bounding.least_risk.Tie as tie
 
+-- the risk of v by u
+abbrev candidate : (b t : List ℕ) → (v u : ℕ) → ℕ
+candidate b t v u = boundsIn b .risk u + apartIn t .stopped u v
+
 abbrev Inv-loop : tie.InvT-loop
-Inv-loop b t v best₀ u₀ best u = (u ≤ v) × (best ≤ none) × AtMost (λ w. chainIn t .allowed w v ≡ true) (λ w. boundsIn b .risk w + apartIn t .stopped w v) u best
+Inv-loop b t v best₀ u₀ best u = (u ≤ v) × (best ≤ none) × AtMost (λ w. chainIn t .allowed w v ≡ true) (candidate b t v) u best
 
 abbrev μ-loop : tie.MeasureT-loop
 μ-loop b t v best₀ u₀ best u = v - u
@@ -65,8 +70,13 @@ loop-again c =
     let lesser = c .lesser in
     let args = c .before .before .before .before .before .before .before .args in
     let loop = c .before .before .before .before .loop in
-    let stopped = c .before .stopped in
-    (omega arith, omega (arith, lesser .ensures), rw (lesser .ensures) (at-most-next (λ w. chainIn (args .t .now) .allowed w (args .v) ≡ true) (λ w. boundsIn (args .b .now) .risk w + apartIn (args .t .now) .stopped w (args .v)) _ _ (loop .inv .2) _ (λ a. rw (stopped .ensures .value a))))
+    let stopped = c .before .stopped in (
+      omega arith,
+      omega (arith, lesser .ensures),
+      rw (lesser .ensures)
+          (at-most-next (λ w. chainIn (args .t .now) .allowed w (args .v) ≡ true) (candidate (args .b .now) (args .t .now) (args .v)) _ _ (loop .inv .2) _
+          (λ a. rw (stopped .ensures .value a))),
+    )
 
 returns : tie.Need-returns Inv-loop μ-loop
 returns c =

@@ -1,5 +1,6 @@
 -- `search::bounding::least_time` meets its contract. The loop's invariant: `best` is at most each candidate before u. The measure is what is left of the positions. Assumes nothing.
-use Prim.Native.Nat.{_+_, _-_, _≤_}
+use Prim.Native.Nat.{ℕ, _+_, _-_, _≤_}
+use mathlib.Core.List.{List}
 use mathlib.Core.Path.{_≡_}
 use native.Mathlib.Omega.{arith}
 use Rattle.units.specs.Limits.{none}
@@ -10,8 +11,12 @@ use borrow.Author.Needs.{needs}
 use Rattle.search.proofs.bounding.least_time.Statement.{statement}
 use Rattle.search.proofs.bounding.least_time.Tie as tie
 
+-- the time of v by u
+abbrev candidate : (b t : List ℕ) → (v u : ℕ) → ℕ
+candidate b t v u = boundsIn b .time u + boundsIn b .part u v + column cmStart t v
+
 abbrev Inv-loop : tie.InvT-loop
-Inv-loop b t v copy best₀ u₀ best u = (u ≤ v) × (best ≤ none) × AtMost (λ w. 0 ≤ w) (λ w. boundsIn b .time w + boundsIn b .part w v + column cmStart t v) u best
+Inv-loop b t v copy best₀ u₀ best u = (u ≤ v) × (best ≤ none) × AtMost (λ w. 0 ≤ w) (candidate b t v) u best
 
 abbrev μ-loop : tie.MeasureT-loop
 μ-loop b t v copy best₀ u₀ best u = v - u
@@ -80,8 +85,12 @@ loop-again c =
     let args = c .before .before .before .before .before .before .before .before .args in
     let loop = c .before .before .before .before .loop in
     let part = c .before .part in
-    let memory-copy = c .before .before .before .before .before .memory-copy in
-    (omega arith, omega (arith, lesser .ensures), rw (lesser .ensures) (at-most-next (λ w. 0 ≤ w) (λ w. boundsIn (args .b .now) .time w + boundsIn (args .b .now) .part w (args .v) + column cmStart (args .t .now) (args .v)) _ _ (loop .inv .2) _ (λ _. rw (part .ensures, memory-copy .ensures))))
+    let memory-copy = c .before .before .before .before .before .memory-copy in (
+      omega arith,
+      omega (arith, lesser .ensures),
+      rw (lesser .ensures)
+          (at-most-next (λ w. 0 ≤ w) (candidate (args .b .now) (args .t .now) (args .v)) _ _ (loop .inv .2) _ (λ _. rw (part .ensures, memory-copy .ensures))),
+    )
 
 returns : tie.Need-returns Inv-loop μ-loop
 returns c =

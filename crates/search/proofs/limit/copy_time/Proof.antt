@@ -37,7 +37,9 @@ add-result c =
     let verification-row = c .before .verification-row in
     let args = c .before .before .before .before .before .args in
     let recoveries = c .before .before .before .recoveries in
-    omega (arith, pre .reached, verification-row .ensures .times (args .v) (omega (arith, pre .order)) (omega arith), reach-cap none (args .u) (arrivalAt (args .t .now) (recoveries .result)) (args .v))
+    let row = verification-row .ensures .times (args .v) (omega (arith, pre .order)) (omega arith) in
+    let cap = reach-cap none (args .u) (arrivalAt (args .t .now) (recoveries .result)) (args .v) in
+    omega (arith, pre .reached, row, cap)
 
 memory-copy-requires : tie.Need-memory-copy-requires
 memory-copy-requires c κs = search needs
@@ -49,7 +51,9 @@ add-result-2 c =
     let args = c .before .before .before .before .before .before .args in
     let recoveries = c .before .before .before .before .recoveries in
     let memory-copy = c .memory-copy in
-    omega (arith, pre .reached, verification-row .ensures .times (args .v) (omega (arith, pre .order)) (omega arith), reach-cap none (args .u) (arrivalAt (args .t .now) (recoveries .result)) (args .v), memory-copy .ensures, pre .bounded .cm (args .v) (omega arith))
+    let row = verification-row .ensures .times (args .v) (omega (arith, pre .order)) (omega arith) in
+    let cap = reach-cap none (args .u) (arrivalAt (args .t .now) (recoveries .result)) (args .v) in
+    omega (arith, pre .reached, row, cap, memory-copy .ensures, pre .bounded .cm (args .v) (omega arith))
 
 returns : tie.Need-returns
 returns c =
@@ -58,7 +62,9 @@ returns c =
     let args = c .before .before .before .before .before .before .args in
     let recoveries = c .before .before .before .before .recoveries in
     let memory-copy = c .memory-copy in
-    omega (arith, pre .reached, verification-row .ensures .times (args .v) (omega (arith, pre .order)) (omega arith), reach-cap none (args .u) (arrivalAt (args .t .now) (recoveries .result)) (args .v), memory-copy .ensures, pre .bounded .cm (args .v) (omega arith))
+    let row = verification-row .ensures .times (args .v) (omega (arith, pre .order)) (omega arith) in
+    let cap = reach-cap none (args .u) (arrivalAt (args .t .now) (recoveries .result)) (args .v) in
+    omega (arith, pre .reached, row, cap, memory-copy .ensures, pre .bounded .cm (args .v) (omega arith))
 
 pub copy-time-spec : {M : Type 1} → statement M
 copy-time-spec =

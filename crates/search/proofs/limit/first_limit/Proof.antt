@@ -37,7 +37,11 @@ after-requires c κs =
     let pre = c .before .before .before .before .before .before .before .pre in
     let loop = c .before .before .before .before .loop in
     let next-copy = c .before .before .next-copy in
-    record { long = pre .bounds .bounding .long; near = omega (arith, loop .inv .0, next-copy .ensures .later, next-copy .ensures .within, pre .bounded .few); far = omega (arith, next-copy .ensures .within, pre .bounded .few) }
+    record {
+      long = pre .bounds .bounding .long;
+      near = omega (arith, loop .inv .0, next-copy .ensures .later, next-copy .ensures .within, pre .bounded .few);
+      far = omega (arith, next-copy .ensures .within, pre .bounded .few);
+    }
 
 disk-copy-requires : tie.Need-disk-copy-requires Inv-loop μ-loop
 disk-copy-requires c κs =
@@ -57,7 +61,9 @@ add-if1 c =
     let after2 = c .after2 in
     let pre = c .before .before .before .before .before .before .before .before .before .before .pre in
     let next-copy = c .before .before .before .before .before .next-copy in
-    rw (disk-copy .ensures, after2 .ensures) (omega (arith, pre .bounded .cd (next-copy .result) (next-copy .ensures .within), pre .bounds .bounding .afters (next-copy .result) (next-copy .result) (omega arith) (next-copy .ensures .within)))
+    let copy = pre .bounded .cd (next-copy .result) (next-copy .ensures .within) in
+    let rest = pre .bounds .bounding .afters (next-copy .result) (next-copy .result) (omega arith) (next-copy .ensures .within) in
+    rw (disk-copy .ensures, after2 .ensures) (omega (arith, copy, rest))
 
 add-lesser : tie.Need-add-lesser Inv-loop μ-loop
 add-lesser c =

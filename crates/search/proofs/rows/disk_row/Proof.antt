@@ -110,8 +110,18 @@ loop-again c =
     let after = c .before .after in
     let if1 = c .if1 in
     ⊎-elim
-    (λ w. (omega arith, rw (w .8, w .9) (disks-offered _ _ _ _ (pre .bounding) (pre .ends) (pre .limited) _ _ _ (loop .inv .1) (omega arith) _ (lesser .ensures) (rw (← (after .ensures)) (w .0 .taken)) _ _ (w .3 .ensures))))
-    (λ w. (omega arith, rw (w .1, w .2) (disks-passed _ _ _ _ (pre .bounding) (pre .ends) (pre .limited) _ _ _ (loop .inv .1) (omega arith) _ (lesser .ensures) (rw (← (after .ensures)) (w .0 .left)))))
+    (λ w. (
+      omega arith,
+      rw (w .8, w .9)
+          (disks-offered _ _ _ _ (pre .bounding) (pre .ends) (pre .limited) _ _ _ (loop .inv .1) (omega arith) _ (lesser .ensures)
+          (rw (← (after .ensures)) (w .0 .taken)) _ _ (w .3 .ensures)),
+    ))
+    (λ w. (
+      omega arith,
+      rw (w .1, w .2)
+          (disks-passed _ _ _ _ (pre .bounding) (pre .ends) (pre .limited) _ _ _ (loop .inv .1) (omega arith) _ (lesser .ensures)
+          (rw (← (after .ensures)) (w .0 .left))),
+    ))
     (if1 .came)
 
 same-length : tie.Need-same-length Inv-loop μ-loop

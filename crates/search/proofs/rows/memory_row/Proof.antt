@@ -81,7 +81,12 @@ loop-again c =
     let far = c .before .far in
     let if1 = c .if1 in
     ⊎-elim
-    (λ w. (omega arith, omega arith, rw (w .8, w .9) (copies-offered _ _ _ _ _ (pre .bounding) (pre .room) _ _ _ (loop .inv .2) (loop .inv .0) (omega arith) _ (far .ensures) (w .0 .taken) _ _ (w .3 .ensures))))
+    (λ w. (
+      omega arith,
+      omega arith,
+      rw (w .8, w .9)
+          (copies-offered _ _ _ _ _ (pre .bounding) (pre .room) _ _ _ (loop .inv .2) (loop .inv .0) (omega arith) _ (far .ensures) (w .0 .taken) _ _ (w .3 .ensures)),
+    ))
     (λ w. (omega arith, omega arith, rw (w .1, w .2) (copies-passed _ _ _ _ _ (pre .bounding) (pre .room) _ _ _ (loop .inv .2) (loop .inv .0) (omega arith) _ (far .ensures) (w .0 .left))))
     (if1 .came)
 
