@@ -7,11 +7,11 @@ use mathlib.Core.Bool.{Bool, true, false}
 use native.Mathlib.Nat.{mul-le-mul-left, mul-le-mul-right}
 use native.Mathlib.Decide.{decLt, ℕ-discrete}
 use native.Mathlib.Omega.{arith}
-use Rattle.units.specs.Unit.{up}
-use Rattle.units.proofs.Laws.{up-mono, up-add}
+use Rattle.units.specs.Unit.{unit, up}
+use Rattle.units.proofs.Laws.{up-mono, up-add, up-ticks}
 use Rattle.chain.specs.Chain.{Chain}
 use Rattle.chain.specs.Working.Search.{Rising, back, toVerification, leastQ, leastM, leastD, toMemory, backD, backM, bestQ}
-use Rattle.chain.specs.Working.Bounds.{Apart, Splits, Bounds, slope, partLow, low, Below}
+use Rattle.chain.specs.Working.Bounds.{Apart, Splits, Bounds, slope, baseTicks, beyond, partLow, low, leastDisk, Below}
 use Rattle.chain.proofs.Search.{reach-cap, reach-lower, IsBack, back-is, leastQ-start}
 use Rattle.chain.proofs.Walk.{backD-lt, backD-arrives, backM-lt, backM-ge, backM-reached, backM-arrives}
 
@@ -25,6 +25,15 @@ recovery-adds k i j x h =
     let e : k * x ≤ (i + j) * x = mul-le-mul-right x h in
     let f : k * x ≤ i * x + j * x = omega (arith, e) in
     omega (arith, up-mono f, up-add (i * x) (j * x))
+
+-- a recovery of a whole number of 2^24 ticks adds whole ticks, so what lies beyond it is rounded alone
+recovery-beyond : (k a x : ℕ) → unit * a ≤ x → up (k * x) ≡ k * a + up (k * (x - unit * a))
+recovery-beyond k a x h = go (x - unit * a) (omega arith)
+  where
+    go : (y : ℕ) → x ≡ unit * a + y → up (k * x) ≡ k * a + up (k * y)
+    go y e =
+        let f : k * (unit * a + y) ≡ (k * a) * unit + k * y = omega arith in
+        rw (e, f) (up-ticks (k * a) (k * y))
 
 -- S rises with Q' and M'
 pub splits-rise : (c : Chain) (s : Apart) → Splits c s → Rising c
@@ -123,15 +132,19 @@ module _ (c : Chain) (s : Apart) (splits : Splits c s) (N n : ℕ) (b : Bounds) 
   unfolding slope
   slope-step m u v h l a = omega (arith, below .risk-step u v h l a)
 
-  -- no verification comes before its part and the recovery from disk on the way
-  pub part-below : (d m M' v : ℕ) → m < v → v ≤ n → leastQ c N d m M' v < N → b .part m v + up (slope b m v * (s .rd d + M')) ≤ leastQ c N d m M' v
-  part-below d m M' v h l r = all (suc v) v (omega arith) h l r
+  -- no verification comes before its part and the recovery from disk on the way, where that is not below the base
+  pub part-below : (d m M' v : ℕ) → baseTicks b m ≤ s .rd d + M' → m < v → v ≤ n → leastQ c N d m M' v < N
+      → b .part m v + up (slope b m v * beyond b m (s .rd d + M')) ≤ leastQ c N d m M' v
+  part-below d m M' v base h l r = all (suc v) v (omega arith) h l r
     where
       x : ℕ
       x = s .rd d + M'
 
       Holds : ℕ → Type 0
-      Holds v = b .part m v + up (slope b m v * x) ≤ leastQ c N d m M' v
+      Holds v = b .part m v + up (slope b m v * beyond b m x) ≤ leastQ c N d m M' v
+
+      apart : (k : ℕ) → up (k * x) ≡ k * b .base m + up (k * beyond b m x)
+      apart k = recovery-beyond k (b .base m) x base
 
       go : (v : ℕ) → v ≤ n → (at : Before c N d m M' v) → Dec (at .u ≡ m) → (m < at .u → Holds (at .u)) → Holds v
       go v l at (yes e) earlier =
@@ -142,8 +155,9 @@ module _ (c : Chain) (s : Apart) (splits : Splits c s) (N n : ℕ) (b : Bounds) 
             arith,
             first,
             splits .whole m v m d 0 M',
+            apart (s .stopped m v),
             below .part-first m v f l a,
-            up-mono (mul-le-mul-right x (slope-first m v f l a)),
+            up-mono (mul-le-mul-right (beyond b m x) (slope-first m v f l a)),
           )
       go v l at (no e) earlier =
           let u : ℕ = at .u in
@@ -155,9 +169,10 @@ module _ (c : Chain) (s : Apart) (splits : Splits c s) (N n : ℕ) (b : Bounds) 
             i,
             at .arrives,
             splits .whole u v m d q M',
+            apart (s .stopped u v),
             splits .rises u v m (b .part m u) q (omega (arith, i)),
             below .part-step m u v f (at .falls) l (at .allowed),
-            recovery-adds (slope b m v) (slope b m u) (s .stopped u v) x (slope-step m u v (at .falls) l (at .allowed)),
+            recovery-adds (slope b m v) (slope b m u) (s .stopped u v) (beyond b m x) (slope-step m u v (at .falls) l (at .allowed)),
           )
 
       all : (k v : ℕ) → v < k → m < v → v ≤ n → leastQ c N d m M' v < N → Holds v
@@ -166,7 +181,12 @@ module _ (c : Chain) (s : Apart) (splits : Splits c s) (N n : ℕ) (b : Bounds) 
           let at : Before c N d m M' v = before-is c N d m M' v (omega arith) r in
           go v l at (ℕ-discrete (at .u) m) (λ f. all k (at .u) (omega (arith, at .falls)) f (omega (arith, at .falls)) (at .reached))
 
-  -- nor a memory copy before the difference of the times
+  -- a memory copy whose time is not below the difference of the times has a recovery that is not below the base
+  base-below : (d m t : ℕ) → d ≤ m → m ≤ n → b .time m ≤ b .time d + t → baseTicks b m ≤ s .rd d + t
+  unfolding leastDisk
+  base-below d m t h l e = omega (arith, below .base-low d m h l)
+
+  -- and no memory copy comes before the difference of the times
   pub time-below : (d v : ℕ) → d ≤ v → v ≤ n → leastM c N d v < N → b .time v ≤ b .time d + leastM c N d v
   time-below d = along c N n d (λ v. b .time v ≤ b .time d + leastM c N d v) (omega arith) step
     where
@@ -175,34 +195,37 @@ module _ (c : Chain) (s : Apart) (splits : Splits c s) (N n : ℕ) (b : Bounds) 
       step v h l r e =
           let m : ℕ = backM c N d v in
           let lt : m < v = backM-lt c N d v h r in
+          let base = base-below d m (leastM c N d m) (backM-ge c N d v h r) (omega arith) e in
           let arrives : leastM c N d m + bestQ c N d m v + c .cm v ≡ leastM c N d v = backM-arrives c N d v h r in
-          omega (arith, e, arrives, part-below d m (leastM c N d m) v lt l (omega (arith, arrives)), below .time-step m v lt l)
+          omega (arith, e, arrives, part-below d m (leastM c N d m) v base lt l (omega (arith, arrives)), below .time-step m v lt l)
 
   -- the memory copy m before v, from which v is reached in least time
   module _ (d v : ℕ) (h : d < v) (l : v ≤ n) (r : leastM c N d v < N) where
+    since-below : b .time (backM c N d v) ≤ b .time d + leastM c N d (backM c N d v)
+    since-below = time-below d (backM c N d v) (backM-ge c N d v h r) (omega (arith, backM-lt c N d v h r)) (backM-reached c N d v h r)
+
     -- v is not before its bound from m
     pub low-below : low c b (backM c N d v) (leastM c N d (backM c N d v)) (s .rd d + leastM c N d (backM c N d v)) v ≤ leastM c N d v
     unfolding low partLow
     low-below =
         let m : ℕ = backM c N d v in
+        let lt : m < v = backM-lt c N d v h r in
+        let base = base-below d m (leastM c N d m) (backM-ge c N d v h r) (omega arith) since-below in
         let arrives : leastM c N d m + bestQ c N d m v + c .cm v ≡ leastM c N d v = backM-arrives c N d v h r in
-        omega (arith, arrives, part-below d m (leastM c N d m) v (backM-lt c N d v h r) l (omega (arith, arrives)))
+        omega (arith, arrives, part-below d m (leastM c N d m) v base lt l (omega (arith, arrives)))
 
     -- and with what comes after, the bound by v is not below that by m
     pub memory-after : leastM c N d (backM c N d v) + b .after d (backM c N d v) ≤ leastM c N d v + b .after d v
-    unfolding low partLow
+    unfolding low partLow leastDisk
     memory-after =
         let m : ℕ = backM c N d v in
-        let ge : d ≤ m = backM-ge c N d v h r in
-        let lt : m < v = backM-lt c N d v h r in
-        let since : ℕ = b .time m - b .time d in
+        let since : ℕ = leastDisk s b d m in
         let t : ℕ = leastM c N d m in
-        let e : since ≤ t = omega (arith, time-below d m ge (omega arith) (backM-reached c N d v h r)) in
         omega (
           arith,
           low-below,
-          below .after-next d m v ge lt l,
-          recovery-rises (slope b m v) (s .rd d + since) (s .rd d + t) (omega (arith, e)),
+          below .after-next d m v (backM-ge c N d v h r) (backM-lt c N d v h r) l,
+          recovery-rises (slope b m v) (beyond b m since) (beyond b m (s .rd d + t)) (omega (arith, since-below)),
         )
 
   -- from the disk copy d to a memory copy v

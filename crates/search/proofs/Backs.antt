@@ -17,7 +17,7 @@ use Rattle.chain.proofs.Placing as placing
 use Rattle.job.specs.Job.{taskLimit}
 use Rattle.search.specs.Working.Bounds.{boundsIn, apartIn}
 use Rattle.search.specs.Working.Rows.{Row, OnPlan}
-use Rattle.search.specs.Working.Table.{rdStart, rmStart, column, chainIn, arrivalAt}
+use Rattle.search.specs.Working.Table.{rdStart, rmStart, column, chainIn, arrivalAt, Bounded, ReadyForRecoveries}
 use Rattle.search.specs.Working.Walk.{CopyRow, HasRoom, Walking, placeOf, StepsBack, RowsAt, AtCopy, ReadyToWalk}
 use Rattle.search.specs.declared.walk.Walk.{Walk}
 use Rattle.search.proofs.Ranges.{chainIn-splits}
@@ -38,6 +38,18 @@ pub record DiskRange (t b : List ℕ) (n v d : ℕ) (times : List ℕ) : Type 0 
   pub time : getD times d 0 ≡ leastD (chainIn t) none d
   pub on-plan : OnPlan t b n d
   pub room : HasRoom t b n d v
+
+-- the recoveries of d and m may be taken
+pub copy-recoveries : (t b : List ℕ) (n d v m : ℕ) {times : List ℕ} → Bounded v t → CopyRange t b n d v m times → ReadyForRecoveries t d m (getD times m 0)
+copy-recoveries t b n d v m bounded range =
+    record {
+      long = bounded .long;
+      d-few = omega (arith, range .from, range .below, bounded .few);
+      m-few = omega (arith, range .below, bounded .few);
+      rd = bounded .rd d (omega (arith, range .from, range .below));
+      rm = bounded .rm m (omega (arith, range .below));
+      time = omega (arith, range .time, range .reached);
+    }
 
 -- a copy that leaves room is exact
 copy-time : (t b : List ℕ) (n d top : ℕ) (times copies : List ℕ) → CopyRow t b n d top times copies → (m : ℕ) → m ≤ top → HasRoom t b n d m

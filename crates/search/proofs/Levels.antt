@@ -8,7 +8,7 @@ use native.Mathlib.Decide.{decLe, decLt, ℕ-discrete}
 use native.Mathlib.Omega.{arith}
 use lib.ListN.{getD, take, drop}
 use Rattle.units.specs.Limits.{none}
-use Rattle.chain.specs.Working.Bounds.{slope, partLow, low}
+use Rattle.chain.specs.Working.Bounds.{slope, beyond, partLow, low, leastDisk}
 use Rattle.chain.specs.Working.Search.{toVerification, leastQ, toMemory, leastM, toDisk, leastD, reach, way, back, backM, backD}
 use Rattle.chain.specs.declared.Recoveries.{Recoveries}
 use Rattle.chain.proofs.Bounds.{recovery-rises, toMemory-rises, time-below, low-below, memory-after, last-after, disk-after}
@@ -63,9 +63,10 @@ module _ (time t b : List ℕ) (d m left top : ℕ) where
   passed-first = record { none-later = λ w a k x y. absurd (omega arith) }
 
   -- the code's own way to say it
-  pub soonest-is : (disk : ℕ) → disk ≡ column rdStart t d + getD time m 0 → (v x : ℕ) → x ≡ partLow (chainIn t) (boundsIn b) m disk v → getD time m 0 + x ≡ soonest v
+  pub soonest-is : (disk y : ℕ) → disk ≡ column rdStart t d + getD time m 0 → y ≡ beyond (boundsIn b) m disk
+      → (v x : ℕ) → x ≡ partLow (chainIn t) (boundsIn b) m y v → getD time m 0 + x ≡ soonest v
   unfolding low
-  soonest-is disk e v x is = rw (is, e)
+  soonest-is disk y e i v x is = rw (is, i, e)
 
   soonest-ge : (v : ℕ) → getD time m 0 ≤ soonest v
   unfolding low
@@ -93,7 +94,7 @@ module _ (time t b : List ℕ) (d m left top : ℕ) where
   -- where m leaves no room, nothing after it does
   pub far-dead : Bounding top t b → d ≤ m → m ≤ top → (v : ℕ) → v ≡ m → ((w : ℕ) → w ≤ top → getD time w 0 ≤ none) → leastM (chainIn t) none d m ≤ getD time m 0
       → left ≤ getD time m 0 + boundsIn b .after d m → Far time t b d m left top v
-  unfolding low partLow apartIn
+  unfolding low partLow apartIn leastDisk
   far-dead bounding h k v e capped not-low dead =
       record {
         from = omega (arith, e);
@@ -111,7 +112,8 @@ module _ (time t b : List ℕ) (d m left top : ℕ) where
             z,
             dead,
             bounding .below .after-next d m w h a l,
-            recovery-rises (slope (boundsIn b) m w) (column rdStart t d + since) (column rdStart t d + getD time m 0) (omega (arith, x)),
+            recovery-rises (slope (boundsIn b) m w) (beyond (boundsIn b) m (column rdStart t d + since)) (beyond (boundsIn b) m (column rdStart t d + getD time m 0))
+                (omega (arith, x)),
           )
       go w a l y z (no r) = omega (arith, y, capped w l, not-low)
 

@@ -5,13 +5,13 @@ use native.Mathlib.Nat.{mul-le-mul-left}
 use native.Mathlib.Omega.{arith}
 use Rattle.units.specs.Unit.{unit, up}
 use Rattle.units.proofs.Laws.{up-mono, up-cap}
-use Rattle.chain.specs.Working.Bounds.{Bounds, slopeCap, slope, Splits}
+use Rattle.chain.specs.Working.Bounds.{Bounds, slopeCap, slope, baseTicks, leastDisk, Splits}
 use Rattle.chain.specs.Working.Factors.{stretchOf, diskCap}
 use Rattle.chain.specs.Working.Search.{Rising}
 use Rattle.chain.proofs.Bounds.{splits-rise}
 use Rattle.chain.proofs.Products.{capped}
-use Rattle.search.specs.Working.Table.{entryOf, chainIn}
-use Rattle.search.specs.Working.Bounds.{apartIn, Bounding}
+use Rattle.search.specs.Working.Table.{rdStart, column, entryOf, chainIn, diskRecoveryCap}
+use Rattle.search.specs.Working.Bounds.{boundsIn, apartIn, Bounding}
 
 -- the most ticks that a recovery from disk adds
 abbrev pub recoveryTicks : ℕ
@@ -54,6 +54,7 @@ bounding-less n m t b h f =
     record {
       long = f .long;
       below = record {
+        base-low = λ d u a k. f .below .base-low d u a (omega arith);
         part-first = λ u v a k. f .below .part-first u v a (omega arith);
         part-step = λ w u v a e k. f .below .part-step w u v a e (omega arith);
         time-step = λ u v a k. f .below .time-step u v a (omega arith);
@@ -65,3 +66,9 @@ bounding-less n m t b h f =
       times = λ v k. f .times v (omega arith);
       afters = λ d u a k. f .afters d u a (omega arith);
     }
+
+-- a base is not more than the recovery from a disk copy at its own position
+pub base-cap : (t b : List ℕ) (u : ℕ) → baseTicks (boundsIn b) u ≤ leastDisk (apartIn t) (boundsIn b) u u → column rdStart t u ≤ diskRecoveryCap
+    → baseTicks (boundsIn b) u ≤ diskRecoveryCap
+unfolding leastDisk apartIn
+base-cap t b u low cap = omega (arith, low, cap)

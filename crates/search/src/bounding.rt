@@ -1,13 +1,16 @@
 // Fills the table of bounds for the chain that a table holds. Each bound is the least over its candidates, and at most NONE.
 ghost use Prim.Native.Nat.{_+_};
-ghost use Rattle.search.specs.Working.Stages.{Parts, Stage, BoundsOf, PutParts, LeastTime, LeastRisk, Ahead, LeastAfter, OwnIs, StoppedIs, ReadyForStopped, ReadyToPutParts, ReadyForParts, ReadyForStep, ReadyForSteps, ReadyForAhead, ReadyForAfter, ReadyForOwn, ReadyForAfters};
+ghost use Rattle.search.specs.Working.Stages.{Stage, BoundsOf, PutParts, PartFilled, LeastTime, LeastRisk, LeastBase, StepPut, Looked, LeastAfter, OwnIs, StoppedIs, ReadyForStopped, ReadyToPutParts, ReadyForBounds, ReadyForPart, ReadyForStep, ReadyForBase, ReadyForAhead, ReadyForAfter, ReadyForOwn, ReadyForAfters};
+use crate::bounds::BASE_START;
 use crate::bounds::RISK_START;
 use crate::bounds::TIME_START;
 use crate::bounds::after;
+use crate::bounds::least_disk;
 use crate::bounds::lesser;
 use crate::bounds::part;
 use crate::bounds::since;
 use crate::bounds::slope;
+use crate::rows::end_after;
 use crate::rows::verification_row;
 use crate::table::disk_copy;
 use crate::table::entry;
@@ -16,6 +19,7 @@ use crate::table::memory_recovery;
 use chain::Recoveries;
 use job::POSITIONS;
 use units::NONE;
+use units::UNIT;
 use units::rounded_up;
 
 // Two entries for each position.
@@ -33,19 +37,15 @@ fn put_parts(b: &mut [u64], q: &[u64], m: usize, n: usize)
     }
 }
 
-// From each memory copy m the row of verifications, without the recovery from disk.
-fn fill_parts(b: &mut [u64], t: &[u32], n: usize)
-    requires { ⌜ ReadyForParts (now b) (now t) n ⌝ }
-    ensures { λ _. ⌜ Parts n n (now (t .entry)) (now (b .exit)) ⌝ }
+// From the memory copy m the row of verifications, with the base of m for its recovery from disk.
+fn fill_part(b: &mut [u64], q: &mut [u64], t: &[u32], m: usize, n: usize)
+    requires { ⌜ ReadyForPart (now b) (now q) (now t) m n ⌝ }
+    ensures { λ _. ⌜ PartFilled m n (now (t .entry)) (now (b .exit)) (now (q .exit)) ⌝ }
 {
-    let mut q = [NONE; POSITIONS];
-    let mut m: usize = 0;
-    while m < n {
-        let memory = memory_recovery(t, m);
-        verification_row(&mut q, t, Recoveries { disk: 0, memory }, m, n);
-        put_parts(b, &q, m, n);
-        m += 1;
-    }
+    let disk = UNIT * b[BASE_START + m];
+    let memory = memory_recovery(t, m);
+    verification_row(q, t, Recoveries { disk, memory }, m, n);
+    put_parts(b, q, m, n);
 }
 
 // The least time of a memory copy at v.
@@ -89,44 +89,76 @@ fn least_risk(b: &[u64], t: &[u32], v: usize) -> u64
     best
 }
 
-// The times and risks of each position.
+// The least recovery from disk at v over the last disk copies, in multiples of 2^24 ticks, rounded down.
+fn least_base(b: &[u64], t: &[u32], v: usize) -> u64
+    requires { ⌜ ReadyForBase (now b) (now t) v ⌝ }
+    ensures { λ r. ⌜ LeastBase (now (b .entry)) (now (t .entry)) v r ⌝ }
+{
+    let mut best = least_disk(b, t, v, v);
+    let mut d: usize = 0;
+    while d < v {
+        best = lesser(least_disk(b, t, d, v), best);
+        d += 1;
+    }
+    best / UNIT
+}
+
+// The time, the risk and the base of v.
+fn put_step(b: &mut [u64], t: &[u32], v: usize)
+    requires { ⌜ ReadyForStep (now b) (now t) v ⌝ }
+    ensures { λ _. ⌜ StepPut (now (b .entry)) (now (t .entry)) v (now (b .exit)) ⌝ }
+{
+    let time = least_time(b, t, v);
+    let risk = least_risk(b, t, v);
+    b[TIME_START + v] = time;
+    b[RISK_START + v] = risk;
+    let base = least_base(b, t, v);
+    b[BASE_START + v] = base;
+}
+
+// From each memory copy the parts, then the time, the risk and the base of the next position.
 fn fill_steps(b: &mut [u64], t: &[u32], n: usize)
-    requires { ⌜ ReadyForSteps (now b) (now t) n ⌝ }
+    requires { ⌜ ReadyForBounds (now b) (now t) n ⌝ }
     ensures { λ _. ⌜ Stage (n + 1) n (now (t .entry)) (now (b .exit)) ⌝ }
 {
     b[TIME_START] = 0;
     b[RISK_START] = 0;
-    let mut v: usize = 1;
-    while v <= n {
-        let time = least_time(b, t, v);
-        let risk = least_risk(b, t, v);
-        b[TIME_START + v] = time;
-        b[RISK_START + v] = risk;
-        v += 1;
+    b[BASE_START] = 0;
+    let mut q = [NONE; POSITIONS];
+    let mut m: usize = 0;
+    while m < n {
+        fill_part(b, &mut q, t, m, n);
+        m += 1;
+        put_step(b, t, m);
     }
 }
 
-// What stays the same for each disk copy up to u: of each v after u, the part from u with the copy at its end, and its slope.
-fn look_ahead(ahead: &mut [u64], b: &[u64], t: &[u32], u: usize, n: usize)
+// What stays the same for each disk copy up to u: of each v after u, the part from u with the copy at its end, and its slope. The answer is where the positions
+// end that have such a part.
+fn look_ahead(ahead: &mut [u64], b: &[u64], t: &[u32], u: usize, n: usize) -> usize
     requires { ⌜ ReadyForAhead (now ahead) (now b) (now t) u n ⌝ }
-    ensures { λ _. ⌜ Ahead (now (b .entry)) (now (t .entry)) u (n + 1) (now (ahead .exit)) ⌝ }
+    ensures { λ r. ⌜ Looked (now (b .entry)) (now (t .entry)) u r n (now (ahead .exit)) ⌝ }
 {
+    let mut end = u + 1;
     let mut v = u + 1;
     while v <= n {
-        ahead[2 * v] = part(b, u, v) + memory_copy(t, v);
+        let time = part(b, u, v) + memory_copy(t, v);
+        ahead[2 * v] = time;
         ahead[2 * v + 1] = slope(b, u, v);
         v += 1;
+        end = end_after(time, v, end);
     }
+    end
 }
 
-// The least of what comes after the memory copy u, over the next one, with the last disk copy d and R_D' + M' = x.
-fn least_after(ahead: &[u64], b: &[u64], d: usize, x: u64, u: usize, n: usize) -> u64
-    requires { ⌜ ReadyForAfter (now ahead) (now b) d x u n ⌝ }
-    ensures { λ r. ⌜ LeastAfter (now (ahead .entry)) (now (b .entry)) d x u n r ⌝ }
+// The least of what comes after the memory copy u, over the next one, with the last disk copy d and R_D' + M' = x beyond the base of u.
+fn least_after(ahead: &[u64], b: &[u64], d: usize, x: u64, u: usize, end: usize) -> u64
+    requires { ⌜ ReadyForAfter (now ahead) (now b) d x u end ⌝ }
+    ensures { λ r. ⌜ LeastAfter (now (ahead .entry)) (now (b .entry)) d x u end r ⌝ }
 {
     let mut best = NONE;
     let mut v = u + 1;
-    while v <= n {
+    while v < end {
         best = lesser(
             ahead[2 * v] + rounded_up(ahead[2 * v + 1] * x) + after(b, d, v),
             best,
@@ -137,27 +169,27 @@ fn least_after(ahead: &[u64], b: &[u64], d: usize, x: u64, u: usize, n: usize) -
 }
 
 // What comes after the disk copy u: nothing at the end.
-fn after_disk(ahead: &[u64], b: &[u64], t: &[u32], u: usize, n: usize) -> u64
-    requires { ⌜ ReadyForOwn (now ahead) (now b) (now t) u n ⌝ }
+fn after_disk(ahead: &[u64], b: &[u64], t: &[u32], u: usize, end: usize, n: usize) -> u64
+    requires { ⌜ ReadyForOwn (now ahead) (now b) (now t) u end n ⌝ }
     ensures { λ r. ⌜ OwnIs (now (b .entry)) (now (t .entry)) u n r ⌝ }
 {
     if u == n {
         return 0;
     }
-    least_after(ahead, b, u, since(b, t, u, u), u, n)
+    least_after(ahead, b, u, since(b, t, u, u), u, end)
 }
 
 // What comes after the copy u, for each last disk copy d: the next memory copy, or a disk copy at u.
-fn fill_column(b: &mut [u64], ahead: &[u64], t: &[u32], u: usize, n: usize)
-    requires { ⌜ ReadyForOwn (now ahead) (now b) (now t) u n ⌝ }
+fn fill_column(b: &mut [u64], ahead: &[u64], t: &[u32], u: usize, end: usize, n: usize)
+    requires { ⌜ ReadyForOwn (now ahead) (now b) (now t) u end n ⌝ }
     ensures { λ _. ⌜ Stage u n (now (t .entry)) (now (b .exit)) ⌝ }
 {
-    let own = after_disk(ahead, b, t, u, n);
+    let own = after_disk(ahead, b, t, u, end, n);
     b[POSITIONS * u + u] = own;
     let at_disk = disk_copy(t, u) + own;
     let mut d: usize = 0;
     while d < u {
-        let next = least_after(ahead, b, d, since(b, t, d, u), u, n);
+        let next = least_after(ahead, b, d, since(b, t, d, u), u, end);
         b[POSITIONS * d + u] = lesser(at_disk, next);
         d += 1;
     }
@@ -172,17 +204,16 @@ fn fill_afters(b: &mut [u64], t: &[u32], n: usize)
     let mut u = n + 1;
     while 0 < u {
         u -= 1;
-        look_ahead(&mut ahead, b, t, u, n);
-        fill_column(b, &ahead, t, u, n);
+        let end = look_ahead(&mut ahead, b, t, u, n);
+        fill_column(b, &ahead, t, u, end, n);
     }
 }
 
 // The bounds of the chain that the table t holds, of n tasks.
 pub fn fill_bounds(b: &mut [u64], t: &[u32], n: usize)
-    requires { ⌜ ReadyForParts (now b) (now t) n ⌝ }
+    requires { ⌜ ReadyForBounds (now b) (now t) n ⌝ }
     ensures { λ _. ⌜ BoundsOf n (now (t .entry)) (now (b .exit)) ⌝ }
 {
-    fill_parts(b, t, n);
     fill_steps(b, t, n);
     fill_afters(b, t, n);
 }

@@ -10,8 +10,9 @@ ghost use lib.ListN.{getD};
 ghost use Rattle.units.specs.Limits.{none};
 ghost use Rattle.chain.specs.Working.Search.{reach, back, toMemory, toDisk};
 ghost use Rattle.search.specs.Working.Table.{chainIn, arrivalAt};
-ghost use Rattle.search.specs.Working.Rows.{Row, Offered, Cut, LiveCopy, LiveDisk, Far, ReadyToArrive, ReadyToVerify, ReadyForRow, ReadyToOffer, OfferMade, ReadyForCopies, ReadyForFar, ReadyForMemory, ReadyForMemoryRow, ReadyForDisk, OffersDisk, ReadyForDiskRow};
+ghost use Rattle.search.specs.Working.Rows.{Row, EndIs, Offered, Cut, LiveCopy, LiveDisk, Far, ReadyToArrive, ReadyToVerify, ReadyForLeast, ReadyForRow, ReadyToOffer, OfferMade, ReadyForCopies, ReadyForFar, ReadyForMemory, ReadyForMemoryRow, ReadyForDisk, OffersDisk, ReadyForDiskRow};
 use crate::bounds::after;
+use crate::bounds::beyond;
 use crate::bounds::excess;
 use crate::bounds::lesser;
 use crate::bounds::part_low;
@@ -47,15 +48,25 @@ fn arrival(t: &[u32], r: Recoveries, u: usize, q: u64, v: usize) -> u64
     q + stretch_time(f, r, q)
 }
 
-// The least Q(v) from the memory copy m, by the row of the positions before v.
-fn verified(time: &[u64], t: &[u32], r: Recoveries, m: usize, v: usize) -> u64
-    requires { ⌜ ReadyToVerify (now time) (now t) r m v ⌝ }
+// Where the positions end that have a time: v if the last before it has one, and else as before.
+pub fn end_after(time: u64, v: usize, end: usize) -> usize
+    ensures { λ r. ⌜ EndIs time v end r ⌝ }
+{
+    if time < NONE {
+        return v;
+    }
+    end
+}
+
+// The least Q(v) from the memory copy m, by the row of the positions before v, of which none is reached from `end` on.
+fn verified(time: &[u64], t: &[u32], r: Recoveries, m: usize, end: usize, v: usize) -> u64
+    requires { ⌜ ReadyForLeast (now time) (now t) r m end v ⌝ }
     ensures { λ x. ⌜ x ≡ reach none m (arrivalAt (now (t .entry)) r) v ⌝ }
 {
     let r = r;
     let mut best = NONE;
     let mut u = later(m, first_of(t, v));
-    while u < v {
+    while u < end {
         best = lesser(arrival(t, r, u, time[u], v), best);
         u += 1;
     }
@@ -69,10 +80,13 @@ pub fn verification_row(time: &mut [u64], t: &[u32], r: Recoveries, m: usize, to
 {
     let r = r;
     time[m] = 0;
+    let mut end = m + 1;
     let mut v = m + 1;
     while v <= top {
-        time[v] = verified(time, t, r, m, v);
+        let q = verified(time, t, r, m, end, v);
+        time[v] = q;
         v += 1;
+        end = end_after(q, v, end);
     }
 }
 
@@ -88,20 +102,20 @@ fn offer(time: &mut [u64], backs: &mut [usize], v: usize, u: usize, arrival: u64
 }
 
 // The earliest position from which v is reached in its least time, by the row from m. It is found by offers, as in rows of copies, so that ties are settled in one
-// place.
+// place; here the rows have the entry of v alone.
 pub fn check_before(time: &[u64], t: &[u32], r: Recoveries, m: usize, v: usize) -> usize
     requires { ⌜ ReadyToVerify (now time) (now t) r m v ⌝ }
     ensures { λ u. ⌜ u ≡ back none m (arrivalAt (now (t .entry)) r) v ⌝ }
 {
     let r = r;
-    let mut best = [NONE; POSITIONS];
-    let mut from = [0usize; POSITIONS];
+    let mut best = [NONE; 1];
+    let mut from = [0usize; 1];
     let mut u = m;
     while u < v {
-        offer(&mut best, &mut from, v, u, arrival(t, r, u, time[u], v));
+        offer(&mut best, &mut from, 0, u, arrival(t, r, u, time[u], v));
         u += 1;
     }
-    from[v]
+    from[0]
 }
 
 // The arrivals at copies from u: the time at u, the time of the part from u, and the cost of the copy.
@@ -135,7 +149,7 @@ fn far(time: &[u64], t: &[u32], b: &[u64], d: usize, m: usize, left: u64, top: u
         return m;
     }
     let r = recoveries(t, d, m, mt);
-    let disk = r.disk;
+    let disk = beyond(b, m, r.disk);
     let mut v = top;
     while m < v {
         let room = excess(left, after(b, d, v));

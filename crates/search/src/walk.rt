@@ -5,7 +5,7 @@ ghost use Rattle.chain.specs.Time.{disk};
 ghost use Rattle.chain.specs.Working.Search.{backD};
 ghost use Rattle.chain.specs.Working.Walk.{PlannedMarks};
 ghost use Rattle.search.specs.Working.Table.{chainIn};
-ghost use Rattle.search.specs.Working.Walk.{StepsBack, ReadyAtCopy, RowsAt, AtCopy, ReadyAtDisk, ReadyToStep, ReadyToWalk};
+ghost use Rattle.search.specs.Working.Walk.{StepsBack, AtCopy, ReadyAtDisk, ReadyToStep, ReadyToWalk};
 use crate::rows::check_before;
 use crate::rows::memory_row;
 use crate::rows::verification_row;
@@ -29,33 +29,6 @@ pub struct Walk {
     pub checks: [u64; POSITIONS],
 }
 
-// The step at the copy v with mark k, whose last disk copy is d.
-fn at_copy(
-    t: &[u32],
-    k: u8,
-    d: usize,
-    v: usize,
-    times: [u64; POSITIONS],
-    copies: [usize; POSITIONS],
-) -> Walk
-    requires { ⌜ ReadyAtCopy (now t) d v times copies ⌝ }
-    ensures { λ r. ⌜ RowsAt (now (t .entry)) k d v times copies r ⌝ }
-{
-    let m = copies[v];
-    let r = recoveries(t, d, m, times[m]);
-    let mut checks = [NONE; POSITIONS];
-    verification_row(&mut checks, t, r, m, v);
-    Walk {
-        k,
-        d,
-        m,
-        v,
-        times,
-        copies,
-        checks,
-    }
-}
-
 // The step at the disk copy v of the plan of n tasks; `time` and `backs` are the disk row.
 fn at_disk(t: &[u32], b: &[u64], time: &[u64], backs: &[usize], n: usize, v: usize) -> Walk
     requires { ⌜ ReadyAtDisk (now t) (now b) n (now time) (now backs) v ⌝ }
@@ -66,7 +39,19 @@ fn at_disk(t: &[u32], b: &[u64], time: &[u64], backs: &[usize], n: usize, v: usi
     let mut times = [NONE; POSITIONS];
     let mut copies = [0usize; POSITIONS];
     memory_row(&mut times, &mut copies, t, b, d, left, v);
-    at_copy(t, DISK, d, v, times, copies)
+    let m = copies[v];
+    let r = recoveries(t, d, m, times[m]);
+    let mut checks = [NONE; POSITIONS];
+    verification_row(&mut checks, t, r, m, v);
+    Walk {
+        k: DISK,
+        d,
+        m,
+        v,
+        times,
+        copies,
+        checks,
+    }
 }
 
 // The step before w; at 0 where the walk is over.
@@ -74,40 +59,33 @@ fn step_back(t: &[u32], b: &[u64], time: &[u64], backs: &[usize], n: usize, w: W
     requires { ⌜ ReadyToStep (now t) (now b) n (now time) (now backs) w ⌝ }
     ensures { λ r. ⌜ StepsBack (now (t .entry)) (now (b .entry)) n w r ⌝ }
 {
+    let mut w = w;
     let d = w.d;
     let m = w.m;
     let v = w.v;
-    let times = w.times;
-    let copies = w.copies;
-    let checks = w.checks;
-    let r = recoveries(t, d, m, times[m]);
-    let u = check_before(&checks, t, r, m, v);
+    let r = recoveries(t, d, m, w.times[m]);
+    let u = check_before(&w.checks, t, r, m, v);
     if u != m {
-        return Walk {
-            k: VERIFICATION,
-            d,
-            m,
-            v: u,
-            times,
-            copies,
-            checks,
-        };
+        w.k = VERIFICATION;
+        w.v = u;
+        return w;
     }
     if m != d {
-        return at_copy(t, MEMORY, d, m, times, copies);
+        let before = w.copies[m];
+        let s = recoveries(t, d, before, w.times[before]);
+        let mut checks = [NONE; POSITIONS];
+        verification_row(&mut checks, t, s, before, m);
+        w.k = MEMORY;
+        w.m = before;
+        w.v = m;
+        w.checks = checks;
+        return w;
     }
     if d != 0 {
         return at_disk(t, b, time, backs, n, d);
     }
-    Walk {
-        k: 0,
-        d,
-        m,
-        v: 0,
-        times,
-        copies,
-        checks,
-    }
+    w.v = 0;
+    w
 }
 
 // The marks of the plan of n tasks, whose least time is below none; `time` and `backs` are the disk row.

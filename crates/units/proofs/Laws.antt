@@ -1,6 +1,7 @@
 -- Laws of up(p): it is the least whole number of ticks whose units reach p, so it grows with p and is known from both sides.
 -- Assumes nothing.
 use Prim.Native.Nat.{ℕ, _+_, _*_, _≤_, _<_}
+use mathlib.Core.Path.{_≡_}
 use native.Mathlib.Omega.{arith}
 use Rattle.units.specs.Unit.{unit, up}
 
@@ -27,3 +28,8 @@ up-cap k h = omega arith
 pub up-add : (p q : ℕ) → up (p + q) ≤ up p + up q
 unfolding up
 up-add p q = omega arith
+
+-- whole ticks stay whole, whatever is rounded with them
+pub up-ticks : (k p : ℕ) → up (k * unit + p) ≡ k + up p
+unfolding up
+up-ticks k p = omega arith

@@ -1,15 +1,15 @@
--- The table that holds bounds on what is still to come: a square of positions with `after` on and above the diagonal and `part` below it, then a column for `time`
--- and one for `risk`. `boundsIn` are the bounds that it holds.
+-- The table that holds bounds on what is still to come: a square of positions with `after` on and above the diagonal and `part` below it, then a column each for
+-- `time`, `risk` and `base`. `boundsIn` are the bounds that it holds.
 use Prim.Native.Nat.{ℕ, _+_, _-_, _*_, _≤_, _<_, _^_}
 use mathlib.Core.Path.{_≡_}
 use mathlib.Core.List.{List}
 use lib.ListN.{length, getD}
 use Rattle.units.specs.Unit.{unit, up}
 use Rattle.units.specs.Limits.{costLimit, none}
-use Rattle.chain.specs.Working.Bounds.{Apart, Bounds, partLow, Below}
+use Rattle.chain.specs.Working.Bounds.{Apart, Bounds, baseTicks, partLow, Below}
 use Rattle.chain.specs.Working.Factors.{diskCap}
 use Rattle.job.specs.Job.{positions}
-use Rattle.search.specs.Working.Table.{tableLength, cmStart, rdStart, rmStart, column, entryOf, chainIn}
+use Rattle.search.specs.Working.Table.{tableLength, cmStart, rdStart, rmStart, column, entryOf, chainIn, diskRecoveryCap}
 
 abbrev pub timeStart : ℕ
 timeStart = positions * positions
@@ -17,13 +17,17 @@ timeStart = positions * positions
 abbrev pub riskStart : ℕ
 riskStart = timeStart + positions
 
+abbrev pub baseStart : ℕ
+baseStart = riskStart + positions
+
 abbrev pub boundsLength : ℕ
-boundsLength = riskStart + positions
+boundsLength = baseStart + positions
 
 -- the bounds that the table holds
 unfoldable pub boundsIn : List ℕ → Bounds
 boundsIn b =
     record {
+      base = λ u. getD b (baseStart + u) 0;
       part = λ u v. getD b (positions * v + u) 0;
       time = λ v. getD b (timeStart + v) 0;
       risk = λ v. getD b (riskStart + v) 0;
@@ -52,6 +56,12 @@ pub record PlacesFit (b : List ℕ) (u v : ℕ) : Type 0 where
   pub long : length b ≡ boundsLength
   pub near : u < positions
   pub far : v < positions
+
+-- the base of u is not more than a recovery may be
+pub record ReadyForBeyond (b : List ℕ) (u : ℕ) : Type 0 where
+  pub long : length b ≡ boundsLength
+  pub few : u < positions
+  pub base : baseTicks (boundsIn b) u ≤ diskRecoveryCap
 
 -- the most that the bound of a part may be
 abbrev pub lowCap : ℕ

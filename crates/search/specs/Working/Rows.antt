@@ -55,6 +55,15 @@ pub record Row (N b : ℕ) (cost : Cost) (e : ℕ) (time : List ℕ) : Type 0 wh
   pub long : length time ≡ positions
   pub times : (v : ℕ) → b ≤ v → v < e → getD time v 0 ≡ reach N b cost v
 
+-- no position from `end` on and before v is reached
+abbrev pub Unreached : (b : ℕ) → Cost → (end v : ℕ) → Type 0
+Unreached b cost end v = (u : ℕ) → end ≤ u → u < v → none ≤ reach none b cost u
+
+-- r is v where the time is below none, and else the end so far
+pub record EndIs (time v end r : ℕ) : Type 0 where
+  pub some : time < none → r ≡ v
+  pub no : none ≤ time → r ≡ end
+
 -- up to the position `top` no time is too low; where v is live, its time is the least and its position before the earliest
 pub record Cut (N b : ℕ) (cost : Cost) (Live : ℕ → Type 0) (top : ℕ) (time back-row : List ℕ) : Type 0 where
   pub times-long : length time ≡ positions
@@ -107,6 +116,12 @@ pub record ReadyToVerify (time t : List ℕ) (r : Recoveries) (m v : ℕ) : Type
   pub recoveries : Recoverable r
   pub order : m < v
   pub row : Row none m (arrivalAt t r) v time
+
+-- of the positions before v, none is reached from `end` on
+pub record ReadyForLeast (time t : List ℕ) (r : Recoveries) (m end v : ℕ) : Type 0 where
+  pub ready : ReadyToVerify time t r m v
+  pub end-before : end ≤ v
+  pub unreached : Unreached m (arrivalAt t r) end v
 
 pub record ReadyForRow (time t : List ℕ) (r : Recoveries) (m top : ℕ) : Type 0 where
   pub long : length time ≡ positions

@@ -1,25 +1,25 @@
--- How the bounds are filled, stage by stage: parts, then times and risks, then what comes after, from the end down. Each stage states the inequalities of `Below`
--- that hold so far.
-use Prim.Native.Nat.{ℕ, _+_, _-_, _*_, _≤_, _<_}
+-- How the bounds are filled, stage by stage: from the start on, the parts from each copy and the time, risk and base of the next; then what comes after, from the
+-- end down. Each stage states the inequalities of `Below` that hold so far.
+use Prim.Native.Nat.{ℕ, _+_, _*_, _≤_, _<_}
 use mathlib.Core.Path.{_≡_}
 use mathlib.Core.Logic.{_≢_}
 use mathlib.Core.Bool.{true}
 use mathlib.Core.List.{List}
-use lib.ListN.{length, getD}
-use Rattle.units.specs.Unit.{up}
+use lib.ListN.{length, getD, set}
+use Rattle.units.specs.Unit.{unit, up}
 use Rattle.units.specs.Limits.{none}
-use Rattle.chain.specs.Working.Bounds.{slopeCap, slope, partLow}
+use Rattle.chain.specs.Working.Bounds.{slopeCap, slope, baseTicks, beyond, partLow, leastDisk}
 use Rattle.chain.specs.Working.Factors.{diskCap}
 use Rattle.job.specs.Job.{positions}
 use Rattle.search.specs.Working.Table.{tableLength, cmStart, cdStart, rdStart, column, chainIn, diskRecoveryCap, Bounded}
-use Rattle.search.specs.Working.Bounds.{boundsLength, boundsIn, apartIn, Bounding}
+use Rattle.search.specs.Working.Bounds.{timeStart, riskStart, baseStart, boundsLength, boundsIn, apartIn, Bounding}
 
 -- the parts from the memory copies before e
 pub record Parts (e n : ℕ) (t b : List ℕ) : Type 0 where
   pub long : length b ≡ boundsLength
-  pub first : (m v : ℕ) → m < e → m < v → v ≤ n → chainIn t .allowed m v ≡ true → boundsIn b .part m v ≤ apartIn t .rest m v m 0
+  pub first : (m v : ℕ) → m < e → m < v → v ≤ n → chainIn t .allowed m v ≡ true → boundsIn b .part m v ≤ apartIn t .rest m v m 0 + apartIn t .stopped m v * boundsIn b .base m
   pub step : (m u v : ℕ) → m < e → m < u → u < v → v ≤ n → chainIn t .allowed u v ≡ true
-      → boundsIn b .part m v ≤ boundsIn b .part m u + apartIn t .rest u v m (boundsIn b .part m u)
+      → boundsIn b .part m v ≤ boundsIn b .part m u + apartIn t .rest u v m (boundsIn b .part m u) + apartIn t .stopped u v * boundsIn b .base m
   pub range : (m v : ℕ) → m < e → m < v → v ≤ n → boundsIn b .part m v ≤ none
 
 -- the times and risks of the positions before e
@@ -29,9 +29,23 @@ pub record Steps (e : ℕ) (t b : List ℕ) : Type 0 where
   pub time-range : (v : ℕ) → v < e → boundsIn b .time v ≤ none
   pub risk-range : (v : ℕ) → v < e → boundsIn b .risk v ≤ none
 
--- not more than R_D' + M' at u, by the times of u and d
+-- the least R_D' + M' at u with the last disk copy d
+unfoldable pub diskIn : (t b : List ℕ) → (d u : ℕ) → ℕ
+diskIn t b = leastDisk (apartIn t) (boundsIn b)
+
+-- the bases of the positions before e
+pub record Bases (e : ℕ) (t b : List ℕ) : Type 0 where
+  pub low : (d u : ℕ) → d ≤ u → u < e → baseTicks (boundsIn b) u ≤ diskIn t b d u
+
+-- the parts from the memory copies before e, and the times, risks and bases of the positions before f
+pub record Filled (e f n : ℕ) (t b : List ℕ) : Type 0 where
+  pub parts : Parts e n t b
+  pub steps : Steps f t b
+  pub bases : Bases f t b
+
+-- what of the least R_D' + M' at u, with the last disk copy d, lies beyond the base of u
 unfoldable pub since : (t b : List ℕ) → (d u : ℕ) → ℕ
-since t b d u = column rdStart t d + (boundsIn b .time u - boundsIn b .time d)
+since t b d u = beyond (boundsIn b) u (diskIn t b d u)
 
 -- what comes after the copy u, with the last disk copy d
 pub record After (n : ℕ) (t b : List ℕ) (d u : ℕ) : Type 0 where
@@ -41,8 +55,7 @@ pub record After (n : ℕ) (t b : List ℕ) (d u : ℕ) : Type 0 where
 
 -- all of it from the copy `from` on
 pub record Stage (from n : ℕ) (t b : List ℕ) : Type 0 where
-  pub parts : Parts n n t b
-  pub steps : Steps (n + 1) t b
+  pub filled : Filled n (n + 1) n t b
   pub afters : (d u : ℕ) → d ≤ u → from ≤ u → u ≤ n → After n t b d u
   pub end : from ≤ n → boundsIn b .after n n ≡ 0
 
@@ -62,6 +75,7 @@ pub record BoundsOf (n : ℕ) (t b : List ℕ) : Type 0 where
 pub record PutParts (b q : List ℕ) (m e : ℕ) (b' : List ℕ) : Type 0 where
   pub long : length b' ≡ length b
   pub here : (v : ℕ) → m < v → v < e → boundsIn b' .part m v ≡ getD q v 0
+  pub past : (i : ℕ) → timeStart ≤ i → getD b' i 0 ≡ getD b i 0
   pub others : (u v : ℕ) → u ≢ m → u < v → v < positions → boundsIn b' .part u v ≡ boundsIn b .part u v
 
 -- the least time and the least risk of v
@@ -73,6 +87,20 @@ pub record LeastRisk (b t : List ℕ) (v r : ℕ) : Type 0 where
   pub range : r ≤ none
   pub least : (u : ℕ) → u < v → chainIn t .allowed u v ≡ true → r ≤ boundsIn b .risk u + apartIn t .stopped u v
 
+-- no recovery from disk at v is below r times 2^24 ticks
+pub record LeastBase (b t : List ℕ) (v r : ℕ) : Type 0 where
+  pub least : (d : ℕ) → d ≤ v → unit * r ≤ diskIn t b d v
+
+-- the time, the risk and the base of v have been put in their places
+pub record StepPut (b t : List ℕ) (v : ℕ) (b' : List ℕ) : Type 0 where
+  pub time : ℕ
+  pub risk : ℕ
+  pub base : ℕ
+  pub least-time : LeastTime b t v time
+  pub least-risk : LeastRisk b t v risk
+  pub least-base : LeastBase (set (set b (timeStart + v) time) (riskStart + v) risk) t v base
+  pub put : b' ≡ set (set (set b (timeStart + v) time) (riskStart + v) risk) (baseStart + v) base
+
 -- two entries for each position
 abbrev pub aheadLength : ℕ
 aheadLength = 2 * positions
@@ -83,10 +111,17 @@ pub record Ahead (b t : List ℕ) (u e : ℕ) (ahead : List ℕ) : Type 0 where
   pub parts : (v : ℕ) → u < v → v < e → getD ahead (2 * v) 0 ≡ boundsIn b .part u v + column cmStart t v
   pub slopes : (v : ℕ) → u < v → v < e → getD ahead (2 * v + 1) 0 ≡ slope (boundsIn b) u v
 
--- the least of what comes after u by the next memory copy
-pub record LeastAfter (ahead b : List ℕ) (d x u n r : ℕ) : Type 0 where
+-- all entries up to n; from `end` on no part from u is a time with the copy at its end
+pub record Looked (b t : List ℕ) (u end n : ℕ) (ahead : List ℕ) : Type 0 where
+  pub entries : Ahead b t u (n + 1) ahead
+  pub from : u < end
+  pub to : end ≤ n + 1
+  pub past : (v : ℕ) → end ≤ v → v ≤ n → none ≤ getD ahead (2 * v) 0
+
+-- the least of what comes after u by the next memory copy, before `end`
+pub record LeastAfter (ahead b : List ℕ) (d x u end r : ℕ) : Type 0 where
   pub range : r ≤ none
-  pub least : (v : ℕ) → u < v → v ≤ n → r ≤ getD ahead (2 * v) 0 + up (getD ahead (2 * v + 1) 0 * x) + boundsIn b .after d v
+  pub least : (v : ℕ) → u < v → v < end → r ≤ getD ahead (2 * v) 0 + up (getD ahead (2 * v + 1) 0 * x) + boundsIn b .after d v
 
 -- what a tick of recovery from disk adds over the stretch, in units
 pub record StoppedIs (t : List ℕ) (u v r : ℕ) : Type 0 where
@@ -104,9 +139,26 @@ pub record ReadyToPutParts (b q : List ℕ) (m n : ℕ) : Type 0 where
   pub start : m ≤ n
   pub few : n < positions
 
-pub record ReadyForParts (b t : List ℕ) (n : ℕ) : Type 0 where
+-- a table of the right length, for a chain whose numbers are bounded
+pub record ReadyForBounds (b t : List ℕ) (n : ℕ) : Type 0 where
   pub long : length b ≡ boundsLength
   pub bounded : Bounded n t
+
+pub record ReadyForPart (b q t : List ℕ) (m n : ℕ) : Type 0 where
+  pub bounded : Bounded n t
+  pub filled : Filled m (m + 1) n t b
+  pub row-long : length q ≡ positions
+  pub order : m < n
+
+-- the parts from m too; the row that they were found in may be used again
+pub record PartFilled (m n : ℕ) (t b q : List ℕ) : Type 0 where
+  pub filled : Filled (m + 1) (m + 1) n t b
+  pub row-long : length q ≡ positions
+
+pub record ReadyForBase (b t : List ℕ) (v : ℕ) : Type 0 where
+  pub bounded : Bounded v t
+  pub long : length b ≡ boundsLength
+  pub time : boundsIn b .time v ≤ none
 
 pub record ReadyForStep (b t : List ℕ) (v : ℕ) : Type 0 where
   pub bounded : Bounded v t
@@ -115,17 +167,21 @@ pub record ReadyForStep (b t : List ℕ) (v : ℕ) : Type 0 where
   pub times : (u : ℕ) → u < v → boundsIn b .time u ≤ none
   pub risks : (u : ℕ) → u < v → boundsIn b .risk u ≤ none
 
-pub record ReadyForSteps (b t : List ℕ) (n : ℕ) : Type 0 where
-  pub bounded : Bounded n t
-  pub parts : Parts n n t b
-
-pub record ReadyForSince (b t : List ℕ) (d u : ℕ) : Type 0 where
+pub record ReadyForDiskIn (b t : List ℕ) (d u : ℕ) : Type 0 where
   pub long : length b ≡ boundsLength
   pub table-long : length t ≡ tableLength
   pub near : d < positions
   pub far : u < positions
   pub recovery : column rdStart t d ≤ diskRecoveryCap
   pub time : boundsIn b .time u ≤ none
+
+pub record DiskIs (b t : List ℕ) (d u r : ℕ) : Type 0 where
+  pub value : r ≡ diskIn t b d u
+  pub cap : r ≤ diskCap
+
+pub record ReadyForSince (b t : List ℕ) (d u : ℕ) : Type 0 where
+  pub disk : ReadyForDiskIn b t d u
+  pub base : baseTicks (boundsIn b) u ≤ diskRecoveryCap
 
 pub record SinceIs (b t : List ℕ) (d u r : ℕ) : Type 0 where
   pub value : r ≡ since t b d u
@@ -138,22 +194,22 @@ pub record ReadyForAhead (ahead b t : List ℕ) (u n : ℕ) : Type 0 where
   pub start : u ≤ n
   pub parts : (v : ℕ) → u < v → v ≤ n → boundsIn b .part u v ≤ none
 
-pub record ReadyForAfter (ahead b : List ℕ) (d x u n : ℕ) : Type 0 where
+pub record ReadyForAfter (ahead b : List ℕ) (d x u end : ℕ) : Type 0 where
   pub ahead-long : length ahead ≡ aheadLength
   pub long : length b ≡ boundsLength
   pub disk : d < positions
-  pub start : u ≤ n
-  pub few : n < positions
+  pub start : u < end
+  pub few : end ≤ positions
   pub recovery : x ≤ diskCap
-  pub parts : (v : ℕ) → u < v → v ≤ n → getD ahead (2 * v) 0 ≤ 2 * none
-  pub slopes : (v : ℕ) → u < v → v ≤ n → getD ahead (2 * v + 1) 0 ≤ slopeCap
-  pub afters : (v : ℕ) → u < v → v ≤ n → boundsIn b .after d v ≤ none
+  pub parts : (v : ℕ) → u < v → v < end → getD ahead (2 * v) 0 ≤ 2 * none
+  pub slopes : (v : ℕ) → u < v → v < end → getD ahead (2 * v + 1) 0 ≤ slopeCap
+  pub afters : (v : ℕ) → u < v → v < end → boundsIn b .after d v ≤ none
 
-pub record ReadyForOwn (ahead b t : List ℕ) (u n : ℕ) : Type 0 where
+pub record ReadyForOwn (ahead b t : List ℕ) (u end n : ℕ) : Type 0 where
   pub bounded : Bounded n t
   pub start : u ≤ n
   pub stage : Stage (u + 1) n t b
-  pub looked : Ahead b t u (n + 1) ahead
+  pub looked : Looked b t u end n ahead
 
 -- what comes after the disk copy u
 pub record OwnIs (b t : List ℕ) (u n r : ℕ) : Type 0 where

@@ -53,18 +53,12 @@ pub record StepsBack (t b : List ℕ) (n : ℕ) (w r : Walk) : Type 0 where
   pub before : Before (chainIn t) none (placeOf w) (placeOf r)
   pub walking : 0 < r .v → Walking t b n r
 
--- What each function of the walk asks, and the step that it gives.
-pub record ReadyAtCopy (t : List ℕ) (d v : ℕ) (times copies : List ℕ) : Type 0 where
-  pub bounded : Bounded v t
-  pub from : d ≤ getD copies v 0
-  pub below : getD copies v 0 < v
-  pub reached : getD times (getD copies v 0) 0 ≤ none
-
 -- the row of verifications starts at the memory copy before v, with its time
 pub record RowsAt (t : List ℕ) (k d v : ℕ) (times copies : List ℕ) (r : Walk) : Type 0 where
   pub is : r ≡ record { k = k; d = d; m = getD copies v 0; v = v; times = times; copies = copies; checks = r .checks }
   pub checks : Row none (getD copies v 0) (toVerification (chainIn t) none d (getD copies v 0) (getD times (getD copies v 0) 0)) (v + 1) (r .checks)
 
+-- What each function of the walk asks, and the step that it gives.
 -- the step at the copy v with mark k, whose last disk copy is d
 pub record AtCopy (t b : List ℕ) (n k d v : ℕ) (r : Walk) : Type 0 where
   pub walking : Walking t b n r

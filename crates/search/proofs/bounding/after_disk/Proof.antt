@@ -11,13 +11,13 @@ returns c = record { range = omega arith; least = λ v h k. omega arith; end = �
 since-requires : tie.Need-since-requires
 since-requires c κs =
     let pre = c .before .before .before .before .pre in
-    since-ready _ _ _ _ _ _ pre (omega arith)
+    since-ready _ _ _ _ _ _ _ pre (omega arith)
 
 least-after-requires : tie.Need-least-after-requires
 least-after-requires c κs =
     let pre = c .before .before .before .before .before .pre in
     let since = c .since in
-    after-ready _ _ _ _ _ _ _ pre (omega arith) (since .ensures .cap)
+    after-ready _ _ _ _ _ _ _ _ pre (omega arith) (since .ensures .cap)
 
 returns-2 : tie.Need-returns-2
 returns-2 c =
@@ -27,7 +27,7 @@ returns-2 c =
     let if1 = c .before .before .if1 in
     record {
       range = least-after .ensures .range;
-      least = λ v h k. rw (← (since .ensures .value)) (after-candidate _ _ _ _ _ _ _ _ (pre .looked) (least-after .ensures) v h k);
+      least = λ v h k. rw (← (since .ensures .value)) (after-candidate _ _ _ _ _ _ _ _ _ (pre .looked) (least-after .ensures) v h k);
       end = λ e. absurd (if1 .left e);
     }
 

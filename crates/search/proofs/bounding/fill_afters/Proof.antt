@@ -37,9 +37,9 @@ look-ahead-requires c κs =
     record {
       bounded = pre .bounded;
       ahead-long = loop .inv .2;
-      long = loop .inv .1 .parts .long;
+      long = loop .inv .1 .filled .parts .long;
       start = omega arith;
-      parts = λ v h l. loop .inv .1 .parts .range _ v (omega arith) h l;
+      parts = λ v h l. loop .inv .1 .filled .parts .range _ v (omega arith) h l;
     }
 
 slice-aggregate-fill-column : tie.Need-slice-aggregate-fill-column Inv-loop μ-loop
@@ -60,13 +60,13 @@ loop-again : tie.Need-loop-again Inv-loop μ-loop
 loop-again c =
     let fill-column = c .before .before .fill-column in
     let look-ahead = c .before .before .before .before .before .before .look-ahead in
-    (omega arith, fill-column .ensures, look-ahead .ensures .long)
+    (omega arith, fill-column .ensures, look-ahead .ensures .entries .long)
 
 same-length : tie.Need-same-length Inv-loop μ-loop
 same-length c =
     let loop = c .before .loop in
     let pre = c .before .before .before .before .pre in
-    loop .inv .1 .parts .long ∙ sym (pre .stage .parts .long)
+    loop .inv .1 .filled .parts .long ∙ sym (pre .stage .filled .parts .long)
 
 returns : tie.Need-returns Inv-loop μ-loop
 returns c =

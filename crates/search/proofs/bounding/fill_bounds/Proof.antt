@@ -4,9 +4,6 @@ use borrow.Author.Needs.{needs}
 use Rattle.search.proofs.bounding.fill_bounds.Statement.{statement}
 use Rattle.search.proofs.bounding.fill_bounds.Tie as tie
 
-fill-parts-requires : tie.Need-fill-parts-requires
-fill-parts-requires c κs = search needs
-
 fill-steps-requires : tie.Need-fill-steps-requires
 fill-steps-requires c κs = search needs
 
@@ -25,7 +22,6 @@ pub fill-bounds-spec : {M : Type 1} → statement M
 fill-bounds-spec =
     tie.close
     (tie.spec
-    fill-parts-requires
     fill-steps-requires
     fill-afters-requires
     same-length

@@ -3,18 +3,18 @@ use Prim.Native.Nat.{_+_, _-_, _≤_, min}
 use mathlib.Core.Path.{_≡_, sym, _∙_}
 use native.Mathlib.Omega.{arith}
 use Rattle.search.specs.Working.Bounds.{boundsIn}
-use Rattle.search.specs.Working.Stages.{Column, Ahead}
+use Rattle.search.specs.Working.Stages.{Column, Looked}
 use Rattle.search.specs.Working.Table.{cdStart, column}
-use Rattle.search.proofs.Stages.{kept-put, after-other, after-here, ahead-kept, column-first, column-next, column-last, after-ready, since-ready}
+use Rattle.search.proofs.Stages.{kept-put, after-other, after-here, looked-kept, column-first, column-next, column-last, after-ready, since-ready}
 use borrow.Author.Needs.{needs}
 use Rattle.search.proofs.bounding.fill_column.Statement.{statement}
 use Rattle.search.proofs.bounding.fill_column.Tie as tie
 
 abbrev Inv-loop : tie.InvT-loop
-Inv-loop b₀ ahead t u n own at-disk d₀ b d = (d ≤ u) × Column d u n t b × Ahead b t u (n + 1) ahead × (boundsIn b .after u u ≡ own)
+Inv-loop b₀ ahead t u end n own at-disk d₀ b d = (d ≤ u) × Column d u n t b × Looked b t u end n ahead × (boundsIn b .after u u ≡ own)
 
 abbrev μ-loop : tie.MeasureT-loop
-μ-loop b₀ ahead t u n own at-disk d₀ b d = u - d
+μ-loop b₀ ahead t u end n own at-disk d₀ b d = u - d
 
 after-disk-requires : tie.Need-after-disk-requires Inv-loop μ-loop
 after-disk-requires c κs =
@@ -39,7 +39,7 @@ mul-b-2 c =
 slice-write-b : tie.Need-slice-write-b Inv-loop μ-loop
 slice-write-b c =
     let pre = c .before .before .before .before .before .pre in
-    omega (arith, pre .start, pre .bounded .few, pre .stage .parts .long)
+    omega (arith, pre .start, pre .bounded .few, pre .stage .filled .parts .long)
 
 disk-copy-requires : tie.Need-disk-copy-requires Inv-loop μ-loop
 disk-copy-requires c κs =
@@ -61,8 +61,8 @@ loop-holds c =
     let after-disk = c .before .after-disk in (
       omega arith,
       column-first _ _ _ (pre .start) (pre .bounded .few) (args .b .now) _ (pre .stage) (after-disk .ensures),
-      ahead-kept _ _ _ (args .b .now) _ (kept-put (args .b .now) (args .u) (args .u) _ (omega arith) (omega (arith, pre .start, pre .bounded .few))) (pre .bounded .few) _ (pre .looked),
-      after-here (args .b .now) (args .u) (args .u) _ (omega arith) (omega (arith, pre .start, pre .bounded .few)) (pre .stage .parts .long),
+      looked-kept _ _ _ (args .b .now) _ (kept-put (args .b .now) (args .u) (args .u) _ (omega arith) (omega (arith, pre .start, pre .bounded .few))) (pre .bounded .few) _ _ (pre .looked),
+      after-here (args .b .now) (args .u) (args .u) _ (omega arith) (omega (arith, pre .start, pre .bounded .few)) (pre .stage .filled .parts .long),
     )
 
 since-requires : tie.Need-since-requires Inv-loop μ-loop
@@ -70,14 +70,14 @@ since-requires c κs =
     let args = c .before .before .before .before .before .before .before .before .before .args in
     let pre = c .before .before .before .before .before .before .before .before .before .pre in
     let loop = c .before .before .loop in
-    since-ready (args .ahead .now) _ _ _ _ _ (record { bounded = pre .bounded; start = pre .start; stage = loop .inv .1 .stage; looked = loop .inv .2 }) (omega arith)
+    since-ready (args .ahead .now) _ _ _ _ _ _ (record { bounded = pre .bounded; start = pre .start; stage = loop .inv .1 .stage; looked = loop .inv .2 }) (omega arith)
 
 least-after-requires : tie.Need-least-after-requires Inv-loop μ-loop
 least-after-requires c κs =
     let pre = c .before .before .before .before .before .before .before .before .before .before .pre in
     let loop = c .before .before .before .loop in
     let since = c .since in
-    after-ready _ _ _ _ _ _ _ (record { bounded = pre .bounded; start = pre .start; stage = loop .inv .1 .stage; looked = loop .inv .2 }) (omega arith) (since .ensures .cap)
+    after-ready _ _ _ _ _ _ _ _ (record { bounded = pre .bounded; start = pre .start; stage = loop .inv .1 .stage; looked = loop .inv .2 }) (omega arith) (since .ensures .cap)
 
 lesser-requires : tie.Need-lesser-requires Inv-loop μ-loop
 lesser-requires c κs = search needs
@@ -101,7 +101,7 @@ slice-write-b-2 : tie.Need-slice-write-b-2 Inv-loop μ-loop
 slice-write-b-2 c =
     let pre = c .before .before .before .before .before .before .before .before .before .before .before .before .pre in
     let loop = c .before .before .before .before .before .loop in
-    omega (arith, pre .start, pre .bounded .few, loop .inv .1 .stage .parts .long)
+    omega (arith, pre .start, pre .bounded .few, loop .inv .1 .stage .filled .parts .long)
 
 add-d : tie.Need-add-d Inv-loop μ-loop
 add-d c =
@@ -124,8 +124,8 @@ loop-again c =
     let x : lesser .result ≡ min (column cdStart (args .t .now) (args .u) + boundsIn (loop .b) .after (args .u) (args .u)) (least-after .result) = lesser .ensures ∙ rw (disk-copy .ensures, own) in
     let least = rw (since .ensures .value) at (least-after .ensures) in (
       omega arith,
-      rw x (column-next _ _ _ (pre .start) (pre .bounded .few) (args .ahead .now) (loop .b) (loop .d) (least-after .result) (omega arith) (loop .inv .1) (loop .inv .2) least),
-      ahead-kept _ _ _ (loop .b) _ (kept-put (loop .b) (loop .d) (args .u) _ (omega arith) (omega (arith, pre .start, pre .bounded .few))) (pre .bounded .few) _ (loop .inv .2),
+      rw x (column-next _ _ _ (pre .start) (pre .bounded .few) (args .ahead .now) (loop .b) (args .end) (loop .d) (least-after .result) (omega arith) (loop .inv .1) (loop .inv .2) least),
+      looked-kept _ _ _ (loop .b) _ (kept-put (loop .b) (loop .d) (args .u) _ (omega arith) (omega (arith, pre .start, pre .bounded .few))) (pre .bounded .few) _ _ (loop .inv .2),
       after-other (loop .b) (loop .d) (args .u) _ (omega arith) (omega (arith, pre .start, pre .bounded .few)) (args .u) (λ e. omega arith) ∙ own,
     )
 
@@ -133,7 +133,7 @@ same-length : tie.Need-same-length Inv-loop μ-loop
 same-length c =
     let loop = c .before .loop in
     let pre = c .before .before .before .before .before .before .before .before .pre in
-    loop .inv .1 .stage .parts .long ∙ sym (pre .stage .parts .long)
+    loop .inv .1 .stage .filled .parts .long ∙ sym (pre .stage .filled .parts .long)
 
 returns : tie.Need-returns Inv-loop μ-loop
 returns c =

@@ -17,10 +17,10 @@ abbrev candidate : (ahead b : List ℕ) → (d x w : ℕ) → ℕ
 candidate ahead b d x w = getD ahead (2 * w) 0 + up (getD ahead (2 * w + 1) 0 * x) + boundsIn b .after d w
 
 abbrev Inv-loop : tie.InvT-loop
-Inv-loop ahead b d x u n best₀ v₀ best v = (u < v) × (v ≤ n + 1) × (best ≤ none) × AtMost (λ w. u < w) (candidate ahead b d x) v best
+Inv-loop ahead b d x u end best₀ v₀ best v = (u < v) × (v ≤ end) × (best ≤ none) × AtMost (λ w. u < w) (candidate ahead b d x) v best
 
 abbrev μ-loop : tie.MeasureT-loop
-μ-loop ahead b d x u n best₀ v₀ best v = (n + 1) - v
+μ-loop ahead b d x u end best₀ v₀ best v = end - v
 
 add-v : tie.Need-add-v Inv-loop μ-loop
 add-v c =

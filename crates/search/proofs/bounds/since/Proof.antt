@@ -1,63 +1,26 @@
--- `search::bounds::since` meets its contract. R_D' and the difference of two times. Assumes nothing.
-use mathlib.Core.Path.{refl}
+-- `search::bounds::since` meets its contract. It is not more than the recovery itself. Assumes nothing.
+use mathlib.Core.Path.{_∙_}
 use native.Mathlib.Omega.{arith}
-use Rattle.search.specs.Working.Bounds.{boundsIn}
 use Rattle.search.specs.Working.Stages.{since}
-use borrow.Author.Needs.{needs}
 use Rattle.search.proofs.bounds.since.Statement.{statement}
 use Rattle.search.proofs.bounds.since.Tie as tie
 
-disk-recovery-requires : tie.Need-disk-recovery-requires
-disk-recovery-requires c κs = search needs
+least-disk-requires : tie.Need-least-disk-requires
+least-disk-requires c κs =
+    let pre = c .before .before .pre in
+    pre .disk
 
-add-excess : tie.Need-add-excess
-add-excess c = search needs
-
-mul-excess : tie.Need-mul-excess
-mul-excess c = search needs
-
-shared-slice-read-excess : tie.Need-shared-slice-read-excess
-shared-slice-read-excess c = search needs
-
-add-excess-2 : tie.Need-add-excess-2
-add-excess-2 c = search needs
-
-mul-excess-2 : tie.Need-mul-excess-2
-mul-excess-2 c = search needs
-
-shared-slice-read-excess-2 : tie.Need-shared-slice-read-excess-2
-shared-slice-read-excess-2 c = search needs
-
-excess-requires : tie.Need-excess-requires
-excess-requires c κs = search needs
-
-add-result : tie.Need-add-result
-unfolding boundsIn
-add-result c =
-    let disk-recovery = c .before .before .before .disk-recovery in
-    let excess = c .excess in
-    let pre = c .before .before .before .before .before .before .pre in
-    rw (disk-recovery .ensures, excess .ensures) (omega (arith, pre .recovery, pre .time))
+beyond-requires : tie.Need-beyond-requires
+beyond-requires c κs =
+    let pre = c .before .before .before .pre in
+    record { long = pre .disk .long; few = pre .disk .far; base = pre .base }
 
 returns : tie.Need-returns
-unfolding since boundsIn
+unfolding since
 returns c =
-    let disk-recovery = c .before .before .before .disk-recovery in
-    let excess = c .excess in
-    let pre = c .before .before .before .before .before .before .pre in
-    rw (disk-recovery .ensures, excess .ensures) (record { value = refl; cap = omega (arith, pre .recovery, pre .time) })
+    let least-disk = c .before .least-disk in
+    let beyond = c .beyond in
+    record { value = beyond .ensures ∙ rw (least-disk .ensures .value); cap = omega (arith, beyond .ensures, least-disk .ensures .cap) }
 
 pub since-spec : {M : Type 1} → statement M
-since-spec =
-    tie.close
-    (tie.spec
-    disk-recovery-requires
-    add-excess
-    mul-excess
-    shared-slice-read-excess
-    add-excess-2
-    mul-excess-2
-    shared-slice-read-excess-2
-    excess-requires
-    add-result
-    returns)
+since-spec = tie.close (tie.spec least-disk-requires beyond-requires returns)

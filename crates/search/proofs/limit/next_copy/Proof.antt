@@ -1,6 +1,7 @@
 -- `search::limit::next_copy` meets its contract. The loop's invariant: v lies after u, up to n. The measure is what is left of the positions. Assumes nothing.
 use Prim.Native.Nat.{_-_, _≤_, _<_}
 use native.Mathlib.Omega.{arith}
+use Rattle.search.proofs.Ranges.{base-cap}
 use Rattle.search.proofs.limit.next_copy.Statement.{statement}
 use Rattle.search.proofs.limit.next_copy.Tie as tie
 
@@ -14,12 +15,17 @@ since-requires : tie.Need-since-requires Inv-loop μ-loop
 since-requires c κs =
     let pre = c .before .before .pre in
     record {
-      long = pre .bounding .long;
-      table-long = pre .bounded .long;
-      near = omega (arith, pre .disk, pre .order, pre .bounded .few);
-      far = omega (arith, pre .order, pre .bounded .few);
-      recovery = pre .bounded .rd _ (omega (arith, pre .disk, pre .order));
-      time = pre .bounding .times _ (omega (arith, pre .order));
+      disk =
+          record {
+            long = pre .bounding .long;
+            table-long = pre .bounded .long;
+            near = omega (arith, pre .disk, pre .order, pre .bounded .few);
+            far = omega (arith, pre .order, pre .bounded .few);
+            recovery = pre .bounded .rd _ (omega (arith, pre .disk, pre .order));
+            time = pre .bounding .times _ (omega (arith, pre .order));
+          };
+      base =
+          base-cap _ _ _ (pre .bounding .below .base-low _ _ (omega arith) (omega (arith, pre .order))) (pre .bounded .rd _ (omega (arith, pre .order)));
     }
 
 after-requires : tie.Need-after-requires Inv-loop μ-loop

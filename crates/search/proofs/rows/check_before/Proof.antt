@@ -20,7 +20,7 @@ abbrev μ-loop : tie.MeasureT-loop
 loop-holds : tie.Need-loop-holds Inv-loop μ-loop
 loop-holds c =
     let pre = c .before .before .pre in
-    (omega arith, omega (arith, pre .order), earliest-start _ _ _ _ (pre .bounded .few))
+    (omega arith, omega (arith, pre .order), earliest-start _ _ _ _)
 
 slice-aggregate-offer : tie.Need-slice-aggregate-offer Inv-loop μ-loop
 slice-aggregate-offer c = search needs
@@ -51,8 +51,7 @@ arrival-requires c κs =
 offer-requires : tie.Need-offer-requires Inv-loop μ-loop
 offer-requires c κs =
     let loop = c .before .before .before .before .before .loop in
-    let pre = c .before .before .before .before .before .before .before .before .pre in
-    record { time-room = omega (arith, loop .inv .2 .best-long, pre .bounded .few); back-room = omega (arith, loop .inv .2 .from-long, pre .bounded .few) }
+    record { time-room = omega (arith, loop .inv .2 .best-long); back-room = omega (arith, loop .inv .2 .from-long) }
 
 add-u : tie.Need-add-u Inv-loop μ-loop
 add-u c =
@@ -73,18 +72,11 @@ loop-again c =
     let start = arrival-ge (args .t .now) (args .r) (loop .u) _ (args .v) (reach-cap none (args .m) (arrivalAt (args .t .now) (args .r)) (loop .u)) in (
       omega arith,
       omega arith,
-      earliest-next _ _ _ _ _ _ _ _ _ _ (pre .bounded .few) (loop .inv .2) (loop .inv .0) (arrival .ensures ∙ rw now) (rw (arrival .ensures, now) start) (offer .ensures),
+      earliest-next _ _ _ _ _ _ _ _ _ _ (loop .inv .2) (loop .inv .0) (arrival .ensures ∙ rw now) (rw (arrival .ensures, now) start) (offer .ensures),
     )
 
-mul-result : tie.Need-mul-result Inv-loop μ-loop
-mul-result c =
-    let pre = c .before .before .before .before .pre in
-    omega (arith, pre .bounded .few)
-
 array-read-result : tie.Need-array-read-result Inv-loop μ-loop
-array-read-result c =
-    let pre = c .before .before .before .before .pre in
-    omega (arith, pre .bounded .few)
+array-read-result c = omega arith
 
 returns : tie.Need-returns Inv-loop μ-loop
 unfolding back
@@ -109,6 +101,5 @@ check-before-spec =
     add-u
     loop-less
     loop-again
-    mul-result
     array-read-result
     returns)

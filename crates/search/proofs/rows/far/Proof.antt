@@ -4,6 +4,7 @@ use mathlib.Core.Path.{refl, ap}
 use native.Mathlib.Omega.{arith}
 use Rattle.chain.specs.declared.Recoveries.{Recoveries}
 use Rattle.search.proofs.Levels.{Passed, passed-first, passed-next, soonest-is, far-some, far-dead, far-none}
+use Rattle.search.proofs.Ranges.{base-cap}
 use Rattle.search.proofs.rows.far.Statement.{statement}
 use Rattle.search.proofs.rows.far.Tie as tie
 use borrow.Author.Needs.{needs}
@@ -59,14 +60,23 @@ recoveries-requires c κs =
       time = pre .capped _ (pre .start);
     }
 
+beyond-requires : tie.Need-beyond-requires Inv-loop μ-loop
+beyond-requires c κs =
+    let pre = c .before .before .before .before .before .before .before .pre in
+    record {
+      long = pre .bounding .long;
+      few = omega (arith, pre .start, pre .bounded .few);
+      base = base-cap _ _ _ (pre .bounding .below .base-low _ _ (omega arith) (omega (arith, pre .start))) (pre .bounded .rd _ (omega (arith, pre .start)));
+    }
+
 loop-holds : tie.Need-loop-holds Inv-loop μ-loop
 loop-holds c =
-    let pre = c .before .before .before .before .before .before .before .pre in
+    let pre = c .before .before .before .before .before .before .before .before .pre in
     (pre .start, omega arith, passed-first _ _ _ _ _ _ _)
 
 after-requires-2 : tie.Need-after-requires-2 Inv-loop μ-loop
 after-requires-2 c κs =
-    let pre = c .before .before .before .before .before .before .before .before .before .pre in
+    let pre = c .before .before .before .before .before .before .before .before .before .before .pre in
     record {
       long = pre .bounding .long;
       near = omega (arith, pre .disk, pre .start, pre .bounded .few);
@@ -78,8 +88,9 @@ excess-requires c κs = search needs
 
 part-low-requires : tie.Need-part-low-requires Inv-loop μ-loop
 part-low-requires c κs =
-    let pre = c .before .before .before .before .before .before .before .before .before .before .before .pre in
-    let recoveries = c .before .before .before .before .recoveries in
+    let pre = c .before .before .before .before .before .before .before .before .before .before .before .before .pre in
+    let recoveries = c .before .before .before .before .before .recoveries in
+    let beyond = c .before .before .before .before .beyond in
     let loop = c .before .before .before .loop in
     record {
       fit = record {
@@ -88,26 +99,26 @@ part-low-requires c κs =
         far = omega (arith, pre .bounded .few);
       };
       long = pre .bounded .long;
-      disk = recoveries .ensures .range .disk;
+      disk = omega (arith, beyond .ensures, recoveries .ensures .range .disk);
       part = pre .bounding .parts _ _ (omega arith) (loop .inv .1);
       copy = pre .bounded .cm _ (loop .inv .1);
     }
 
 add-if2 : tie.Need-add-if2 Inv-loop μ-loop
 add-if2 c =
-    let pre = c .before .before .before .before .before .before .before .before .before .before .before .before .pre in
-    let args = c .before .before .before .before .before .before .before .before .before .before .before .before .args in
+    let pre = c .before .before .before .before .before .before .before .before .before .before .before .before .before .pre in
+    let args = c .before .before .before .before .before .before .before .before .before .before .before .before .before .args in
     let part-low = c .part-low in
     omega (arith, pre .capped (args .m) (pre .start), part-low .ensures .cap)
 
 mul-lesser : tie.Need-mul-lesser Inv-loop μ-loop
 mul-lesser c =
-    let pre = c .before .before .before .before .before .before .before .before .before .before .before .before .pre in
+    let pre = c .before .before .before .before .before .before .before .before .before .before .before .before .before .pre in
     omega (arith, pre .bounded .few)
 
 shared-slice-read-lesser : tie.Need-shared-slice-read-lesser Inv-loop μ-loop
 shared-slice-read-lesser c =
-    let pre = c .before .before .before .before .before .before .before .before .before .before .before .before .before .pre in
+    let pre = c .before .before .before .before .before .before .before .before .before .before .before .before .before .before .pre in
     omega (arith, pre .bounded .few, pre .long)
 
 lesser-requires : tie.Need-lesser-requires Inv-loop μ-loop
@@ -115,17 +126,18 @@ lesser-requires c κs = search needs
 
 returns-2 : tie.Need-returns-2 Inv-loop μ-loop
 returns-2 c =
-    let recoveries = c .before .before .before .before .before .before .before .before .recoveries in
-    let args = c .before .before .before .before .before .before .before .before .before .before .before .before .before .before .before .args in
+    let recoveries = c .before .before .before .before .before .before .before .before .before .recoveries in
+    let beyond = c .before .before .before .before .before .before .before .before .beyond in
+    let args = c .before .before .before .before .before .before .before .before .before .before .before .before .before .before .before .before .args in
     let loop = c .before .before .before .before .before .before .before .loop in
     let part-low = c .before .before .before .part-low in
-    let pre = c .before .before .before .before .before .before .before .before .before .before .before .before .before .before .before .pre in
+    let pre = c .before .before .before .before .before .before .before .before .before .before .before .before .before .before .before .before .pre in
     let if2 = c .if2 in
     let lesser = c .before .lesser in
     let excess = c .before .before .before .before .excess in
     let after2 = c .before .before .before .before .before .after2 in
     let disk = ap (λ (r : Recoveries). r .disk) (recoveries .ensures .value) in
-    let is = soonest-is (args .time .now) (args .t .now) (args .b .now) (args .d) (args .m) (args .left) (args .top) _ disk (loop .v) _ (part-low .ensures .value) in
+    let is = soonest-is (args .time .now) (args .t .now) (args .b .now) (args .d) (args .m) (args .left) (args .top) _ _ disk (beyond .ensures) (loop .v) _ (part-low .ensures .value) in
     far-some _ _ _ _ _ _ _ _ (omega arith) (loop .inv .1) (loop .inv .2) (pre .capped _ (loop .inv .1))
     (omega (arith, is, if2 .taken, lesser .ensures, excess .ensures, after2 .ensures))
 
@@ -137,8 +149,9 @@ loop-less c = omega arith
 
 loop-again : tie.Need-loop-again Inv-loop μ-loop
 loop-again c =
-    let recoveries = c .before .before .before .before .before .before .before .before .recoveries in
-    let args = c .before .before .before .before .before .before .before .before .before .before .before .before .before .before .before .args in
+    let recoveries = c .before .before .before .before .before .before .before .before .before .recoveries in
+    let beyond = c .before .before .before .before .before .before .before .before .beyond in
+    let args = c .before .before .before .before .before .before .before .before .before .before .before .before .before .before .before .before .args in
     let loop = c .before .before .before .before .before .before .before .loop in
     let part-low = c .before .before .before .part-low in
     let if2 = c .if2 in
@@ -146,12 +159,12 @@ loop-again c =
     let excess = c .before .before .before .before .excess in
     let after2 = c .before .before .before .before .before .after2 in
     let disk = ap (λ (r : Recoveries). r .disk) (recoveries .ensures .value) in
-    let is = soonest-is (args .time .now) (args .t .now) (args .b .now) (args .d) (args .m) (args .left) (args .top) _ disk (loop .v) _ (part-low .ensures .value) in
+    let is = soonest-is (args .time .now) (args .t .now) (args .b .now) (args .d) (args .m) (args .left) (args .top) _ _ disk (beyond .ensures) (loop .v) _ (part-low .ensures .value) in
     (omega arith, omega arith, passed-next _ _ _ _ _ _ _ _ (omega arith) (loop .inv .2) (omega (arith, is, if2 .left, lesser .ensures, excess .ensures, after2 .ensures)))
 
 returns-3 : tie.Need-returns-3 Inv-loop μ-loop
 returns-3 c =
-    let pre = c .before .before .before .before .before .before .before .before .before .pre in
+    let pre = c .before .before .before .before .before .before .before .before .before .before .pre in
     let loop = c .before .loop in
     far-none _ _ _ _ _ _ _ _ (pre .start) (loop .inv .0) (omega arith) (loop .inv .2)
 
@@ -167,6 +180,7 @@ far-spec =
     add-if1
     returns
     recoveries-requires
+    beyond-requires
     loop-holds
     after-requires-2
     excess-requires

@@ -1,21 +1,23 @@
--- `search::rows::verification_row` meets its contract. The loop's invariant: the entries before v are least times. The measure is what is left of the positions.
--- Assumes nothing.
+-- `search::rows::verification_row` meets its contract. The loop's invariant: the entries before v are least times, and no position from `end` on is reached.
+-- The measure is what is left of the positions. Assumes nothing.
 use Prim.Native.Nat.{_+_, _-_, _≤_, _<_}
 use mathlib.Core.Path.{_≡_, sym, _∙_}
 use native.Mathlib.Omega.{arith}
 use Rattle.units.specs.Limits.{none}
-use Rattle.search.specs.Working.Rows.{Row}
+use Rattle.search.specs.Working.Rows.{Row, Unreached}
 use Rattle.search.specs.Working.Table.{arrivalAt}
 use Rattle.search.proofs.Tables.{bounded-less}
-use Rattle.search.proofs.Verifications.{row-first, row-next}
+use Rattle.search.proofs.Verifications.{row-first, row-next, end-within, end-unreached}
+use borrow.Author.Needs.{needs}
 use Rattle.search.proofs.rows.verification_row.Statement.{statement}
 use Rattle.search.proofs.rows.verification_row.Tie as tie
 
 abbrev Inv-loop : tie.InvT-loop
-Inv-loop time₀ t m top r v₀ time v = (m < v) × (v ≤ top + 1) × Row none m (arrivalAt t r) v time
+Inv-loop time₀ t m top r end₀ v₀ time end v =
+    (m < v) × (v ≤ top + 1) × Row none m (arrivalAt t r) v time × (end ≤ v) × Unreached m (arrivalAt t r) end v
 
 abbrev μ-loop : tie.MeasureT-loop
-μ-loop time₀ t m top r v₀ time v = (top + 1) - v
+μ-loop time₀ t m top r end₀ v₀ time end v = (top + 1) - v
 
 mul-time : tie.Need-mul-time Inv-loop μ-loop
 mul-time c =
@@ -27,6 +29,11 @@ slice-write-time c =
     let pre = c .before .before .pre in
     omega (arith, pre .start, pre .bounded .few, pre .long)
 
+add-end : tie.Need-add-end Inv-loop μ-loop
+add-end c =
+    let pre = c .before .before .pre in
+    omega (arith, pre .start, pre .bounded .few)
+
 add-v : tie.Need-add-v Inv-loop μ-loop
 add-v c =
     let pre = c .before .before .pre in
@@ -35,18 +42,28 @@ add-v c =
 loop-holds : tie.Need-loop-holds Inv-loop μ-loop
 loop-holds c =
     let pre = c .before .before .pre in
-    let args = c .before .before .args in
-    (omega arith, omega (arith, pre .start), row-first _ _ _ (args .time .now) (pre .long) (omega (arith, pre .start, pre .bounded .few)))
+    let args = c .before .before .args in (
+      omega arith,
+      omega (arith, pre .start),
+      row-first _ _ _ (args .time .now) (pre .long) (omega (arith, pre .start, pre .bounded .few)),
+      omega arith,
+      λ u a l. absurd (omega arith),
+    )
 
 verified-requires : tie.Need-verified-requires Inv-loop μ-loop
 verified-requires c κs =
     let pre = c .before .before .before .before .before .pre in
     let loop = c .before .before .loop in
     record {
-      bounded = bounded-less _ _ _ (omega arith) (pre .bounded);
-      recoveries = pre .recoveries;
-      order = loop .inv .0;
-      row = loop .inv .2;
+      ready =
+          record {
+            bounded = bounded-less _ _ _ (omega arith) (pre .bounded);
+            recoveries = pre .recoveries;
+            order = loop .inv .0;
+            row = loop .inv .2;
+          };
+      end-before = loop .inv .3;
+      unreached = loop .inv .4;
     }
 
 mul-time-2 : tie.Need-mul-time-2 Inv-loop μ-loop
@@ -65,15 +82,24 @@ add-v-2 c =
     let pre = c .before .before .before .before .before .before .pre in
     omega (arith, pre .bounded .few)
 
+end-after-requires : tie.Need-end-after-requires Inv-loop μ-loop
+end-after-requires c κs = search needs
+
 loop-less : tie.Need-loop-less Inv-loop μ-loop
 loop-less c = omega arith
 
 loop-again : tie.Need-loop-again Inv-loop μ-loop
 loop-again c =
-    let loop = c .before .before .before .loop in
-    let pre = c .before .before .before .before .before .before .pre in
-    let verified = c .verified in
-    (omega arith, omega arith, row-next _ _ _ _ _ _ (loop .inv .2) (omega (arith, pre .bounded .few)) (verified .ensures))
+    let loop = c .before .before .before .before .loop in
+    let pre = c .before .before .before .before .before .before .before .pre in
+    let verified = c .before .verified in
+    let end-after = c .end-after in (
+      omega arith,
+      omega arith,
+      row-next _ _ _ _ _ _ (loop .inv .2) (omega (arith, pre .bounded .few)) (verified .ensures),
+      end-within _ _ _ _ (end-after .ensures) (loop .inv .3),
+      end-unreached _ _ _ _ (end-after .ensures) _ _ (verified .ensures) (loop .inv .4),
+    )
 
 same-length : tie.Need-same-length Inv-loop μ-loop
 same-length c =
@@ -96,12 +122,14 @@ verification-row-spec =
     μ-loop
     mul-time
     slice-write-time
+    add-end
     add-v
     loop-holds
     verified-requires
     mul-time-2
     slice-write-time-2
     add-v-2
+    end-after-requires
     loop-less
     loop-again
     same-length

@@ -1,8 +1,13 @@
--- `search::walk::at_disk` meets its contract. The disk row names d, and the memory row from d up to v is filled anew, cut by what the plan leaves from d to the end.
+-- `search::walk::at_disk` meets its contract. The disk row names d, and the memory row from d up to v is filled anew, cut by what the plan leaves from d to the end;
+-- it names m, and the row of verifications from m is filled anew.
 -- Assumes nothing.
 use mathlib.Core.Path.{refl}
 use native.Mathlib.Omega.{arith}
-use Rattle.search.proofs.Backs.{copy-range, copy-step, disk-range}
+use lib.ListN.{length-replicate}
+use Rattle.units.specs.Limits.{none}
+use Rattle.job.specs.Job.{positions}
+use Rattle.search.proofs.Levels.{table-row}
+use Rattle.search.proofs.Backs.{copy-range, copy-recoveries, copy-step, disk-range}
 use Rattle.search.proofs.Ranges.{bounding-less}
 use Rattle.search.proofs.Tables.{bounded-less}
 use Rattle.search.proofs.walk.at_disk.Statement.{statement}
@@ -62,29 +67,73 @@ memory-row-requires c κs =
       room = omega (arith, pre .ready .found .least, pre .ready .in-time);
     }
 
-at-copy-requires : tie.Need-at-copy-requires
-at-copy-requires c κs =
+mul-m : tie.Need-mul-m
+mul-m c =
+    let pre = c .before .before .before .before .before .before .before .before .before .before .before .before .pre in
+    omega (arith, pre .within, pre .ready .bounded .few)
+
+array-read-m : tie.Need-array-read-m
+array-read-m c =
+    let pre = c .before .before .before .before .before .before .before .before .before .before .before .before .pre in
+    omega (arith, pre .within, pre .ready .bounded .few)
+
+mul-recoveries : tie.Need-mul-recoveries
+mul-recoveries c =
     let pre = c .before .before .before .before .before .before .before .before .before .before .before .before .pre in
     let memory-row = c .before .before .memory-row in
     let disk = disk-range _ _ _ _ _ (pre .ready) _ (pre .some-task) (pre .within) (pre .on-plan) in
     let row = rw (pre .ready .found .least, disk .time) at (memory-row .ensures) in
     let range = copy-range _ _ _ _ _ (pre .ready) _ _ _ _ row (disk .below) (pre .within) (disk .room) in
+    omega (arith, range .below, pre .within, pre .ready .bounded .few)
+
+array-read-recoveries : tie.Need-array-read-recoveries
+array-read-recoveries c =
+    let pre = c .before .before .before .before .before .before .before .before .before .before .before .before .pre in
+    let memory-row = c .before .before .memory-row in
+    let disk = disk-range _ _ _ _ _ (pre .ready) _ (pre .some-task) (pre .within) (pre .on-plan) in
+    let row = rw (pre .ready .found .least, disk .time) at (memory-row .ensures) in
+    let range = copy-range _ _ _ _ _ (pre .ready) _ _ _ _ row (disk .below) (pre .within) (disk .room) in
+    omega (arith, range .below, pre .within, pre .ready .bounded .few)
+
+recoveries-requires : tie.Need-recoveries-requires
+recoveries-requires c κs =
+    let pre = c .before .before .before .before .before .before .before .before .before .before .before .before .pre in
+    let memory-row = c .before .before .memory-row in
+    let disk = disk-range _ _ _ _ _ (pre .ready) _ (pre .some-task) (pre .within) (pre .on-plan) in
+    let row = rw (pre .ready .found .least, disk .time) at (memory-row .ensures) in
+    let range = copy-range _ _ _ _ _ (pre .ready) _ _ _ _ row (disk .below) (pre .within) (disk .room) in
+    copy-recoveries _ _ _ _ _ _ (bounded-less _ _ _ (pre .within) (pre .ready .bounded)) range
+
+slice-aggregate-verification-row : tie.Need-slice-aggregate-verification-row
+slice-aggregate-verification-row c = search needs
+
+verification-row-requires : tie.Need-verification-row-requires
+verification-row-requires c κs =
+    let pre = c .before .before .before .before .before .before .before .before .before .before .before .before .before .before .pre in
+    let memory-row = c .before .before .before .before .memory-row in
+    let disk = disk-range _ _ _ _ _ (pre .ready) _ (pre .some-task) (pre .within) (pre .on-plan) in
+    let row = rw (pre .ready .found .least, disk .time) at (memory-row .ensures) in
+    let range = copy-range _ _ _ _ _ (pre .ready) _ _ _ _ row (disk .below) (pre .within) (disk .room) in
+    let recoveries = c .before .recoveries in
     record {
+      long = length-replicate positions none;
       bounded = bounded-less _ _ _ (pre .within) (pre .ready .bounded);
-      from = range .from;
-      below = range .below;
-      reached = omega (arith, range .time, range .reached);
+      recoveries = recoveries .ensures .range;
+      start = omega (arith, range .below);
     }
 
 returns : tie.Need-returns
 returns c =
-    let pre = c .before .before .before .before .before .before .before .before .before .before .before .before .before .pre in
-    let memory-row = c .before .before .before .memory-row in
-    let at-copy = c .at-copy in
+    let pre = c .before .before .before .before .before .before .before .before .before .before .before .before .before .before .before .before .pre in
+    let memory-row = c .before .before .before .before .before .before .memory-row in
     let disk = disk-range _ _ _ _ _ (pre .ready) _ (pre .some-task) (pre .within) (pre .on-plan) in
     let row = rw (pre .ready .found .least, disk .time) at (memory-row .ensures) in
+    let recoveries = c .before .before .before .recoveries in
+    let verification-row = c .before .verification-row in
+    let checks = table-row _ _ _ _ _ _ (recoveries .ensures .value) _ (verification-row .ensures) in
     rw (← disk .is)
-    (copy-step _ _ _ _ _ (pre .ready) _ _ _ _ row (disk .below) (pre .within) (disk .room) _ _ (omega arith) (omega arith) (λ _. disk .is) (disk .on-plan) (at-copy .ensures))
+    (copy-step _ _ _ _ _ (pre .ready) _ _ _ _ row (disk .below) (pre .within) (disk .room) _ _ (omega arith) (omega arith) (λ _. disk .is) (disk .on-plan)
+    (record { is = refl; checks = checks }))
 
 pub at-disk-spec : {M : Type 1} → statement M
 at-disk-spec =
@@ -101,5 +150,11 @@ at-disk-spec =
     slice-aggregate-memory-row
     slice-aggregate-memory-row-2
     memory-row-requires
-    at-copy-requires
+    mul-m
+    array-read-m
+    mul-recoveries
+    array-read-recoveries
+    recoveries-requires
+    slice-aggregate-verification-row
+    verification-row-requires
     returns)
