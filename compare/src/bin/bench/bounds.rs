@@ -1,6 +1,8 @@
 //! Lower bounds on what a plan still takes, worked out backward once.
 //!
-//! - part m v is Q(v) from the memory copy m with disk term 0: whatever the
+//! - base u is a whole multiple of 2^24 ticks that no disk term at u is below, so
+//!   that what it adds to a stretch is a whole number of ticks.
+//! - part m v is Q(v) from the memory copy m with that disk term: whatever the
 //!   disk copy, Q(v) is not less.
 //! - time v is the least time of a memory copy at v by such parts, and risk v
 //!   the least sum of G(y_s + y_f) - G(y_s) over allowed stretches to v. Both
@@ -33,6 +35,8 @@ pub struct Bounds<const N: usize> {
     platform: Platform,
     pub tasks: usize,
     pub pairs: Pairs<N>,
+    /// In ticks.
+    base: [u64; N],
     part: [[u64; N]; N],
     time: [u64; N],
     risk: [u64; N],
@@ -49,6 +53,7 @@ impl<const N: usize> Bounds<N> {
             platform,
             tasks,
             pairs: Pairs::empty(),
+            base: row,
             part: table,
             time: row,
             risk: row,
@@ -58,30 +63,34 @@ impl<const N: usize> Bounds<N> {
 
     pub fn fill(&mut self, job: &Job) {
         self.pairs.fill(job);
-        self.fill_parts();
-        self.fill_times();
+        for v in 1..=self.tasks {
+            self.fill_parts(v);
+            self.time[v] = self.time_by_parts(v);
+            self.base[v] = self.least_disk_term(v) / UNIT * UNIT;
+        }
         self.fill_risks();
         self.fill_after();
     }
 
-    /// By v first, so that the pairs that end there stay at hand.
-    fn fill_parts(&mut self) {
-        for v in 1..=self.tasks {
-            for m in 0..v {
-                let (first, pairs) = self.pairs.to(m, v);
-                let row = &mut self.part[m];
-                let before = pairs.iter().zip(&row[first..v]);
-                let arrivals = before.map(|(pair, &q)| pair.arrival_without_disk(q));
-                row[v] = up(arrivals.fold(NO_UNITS, u64::min));
-            }
+    /// The parts that end at v.
+    fn fill_parts(&mut self, v: usize) {
+        for m in 0..v {
+            let (first, pairs) = self.pairs.to(m, v);
+            let (base, row) = (self.base[m], &mut self.part[m]);
+            let before = pairs.iter().zip(&row[first..v]);
+            let arrivals = before.map(|(pair, &q)| pair.arrival_in_units(base, q));
+            row[v] = up(arrivals.fold(NO_UNITS, u64::min));
         }
     }
 
-    fn fill_times(&mut self) {
-        for v in 1..=self.tasks {
-            let to = |u: usize| self.time[u] + self.part[u][v] + self.memory_copy();
-            self.time[v] = (0..v).map(to).fold(NONE, u64::min);
-        }
+    fn time_by_parts(&self, v: usize) -> u64 {
+        let to = |u: usize| self.time[u] + self.part[u][v] + self.memory_copy();
+        (0..v).map(to).fold(NONE, u64::min)
+    }
+
+    /// The least disk term at v over the disk copies up to it.
+    fn least_disk_term(&self, v: usize) -> u64 {
+        (0..=v).map(|d| self.least_disk(d, v)).min().expect("v itself")
     }
 
     fn fill_risks(&mut self) {
@@ -93,7 +102,8 @@ impl<const N: usize> Bounds<N> {
         }
     }
 
-    /// By u from the end down; what a next copy takes is the same for every d.
+    /// By u from the end down; what a next copy takes is the same for every d,
+    /// and past the last step that is a time nothing is looked at.
     fn fill_after(&mut self) {
         let n = self.tasks;
         let disk_copy = self.disk_copy() * UNIT;
@@ -103,7 +113,8 @@ impl<const N: usize> Bounds<N> {
         let mut steps = [Step::default(); N];
         for u in (0..n).rev() {
             (u + 1..=n).for_each(|v| steps[v] = self.step(u, v));
-            let steps = &steps[u + 1..=n];
+            let end = (u + 1..=n).rev().find(|&v| steps[v].part < NO_UNITS).unwrap_or(u);
+            let steps = &steps[u + 1..=end];
             let own = self.after_next(steps, u, u);
             self.after[u][u] = own;
             for d in 0..u {
@@ -118,7 +129,7 @@ impl<const N: usize> Bounds<N> {
 
     /// The least of the next memory copies after u and of all that follows.
     fn after_next(&self, steps: &[Step], d: usize, u: usize) -> u64 {
-        let disk = self.least_disk(d, u);
+        let disk = self.beyond(u, self.least_disk(d, u));
         let next = steps.iter().zip(&self.after[d][u + 1..]);
         let least = next.map(|(step, after)| step.part + step.slope * disk + after);
         up(least.fold(NO_UNITS, u64::min)) * UNIT
@@ -146,9 +157,15 @@ impl<const N: usize> Bounds<N> {
         self.recovery(d) + self.time[u].saturating_sub(self.time[d])
     }
 
+    /// What of a disk term at u lies beyond the base.
+    fn beyond(&self, u: usize, disk: u64) -> u64 {
+        disk.saturating_sub(self.base[u])
+    }
+
     /// The next memory copy, at v, is not before this, the last one being at u
     /// at a time with this disk term.
     pub fn low(&self, u: usize, time: u64, disk: u64, v: usize) -> u64 {
+        let disk = self.beyond(u, disk);
         time + self.part[u][v] + up(self.slope(u, v) * disk) + self.memory_copy()
     }
 

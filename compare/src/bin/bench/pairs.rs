@@ -29,9 +29,10 @@ impl Pair {
         self.work / UNIT + up(u64::from(self.stop) * disk) + up(u64::from(self.error) * q)
     }
 
-    /// The same with disk term 0, in units and not rounded up.
-    pub fn arrival_without_disk(&self, q: u64) -> u64 {
-        self.work + u64::from(self.error) * q
+    /// The same in units and not rounded up, with a disk term of at most two
+    /// costs: the sum stays below 2^64.
+    pub fn arrival_in_units(&self, disk: u64, q: u64) -> u64 {
+        self.work + u64::from(self.stop) * disk + u64::from(self.error) * q
     }
 }
 
@@ -75,14 +76,20 @@ impl<const N: usize> Pairs<N> {
         (first, &self.tables[usize::from(m != 0)][v][first..v])
     }
 
-    /// The best Q from the memory copy m up to `top`; `disk` is R_D' + M'.
+    /// The best Q from the memory copy m up to `top`; `disk` is R_D' + M'. No
+    /// position from `end` on is reached.
     pub fn verified(&self, m: usize, disk: u64, top: usize) -> [u64; N] {
         let mut q = [NONE; N];
         q[m] = 0;
+        let mut end = m + 1;
         for v in m + 1..=top {
             let (first, pairs) = self.to(m, v);
-            let arrivals = pairs.iter().zip(&q[first..v]).map(|(pair, &q)| pair.arrival(disk, q));
+            let before = pairs.iter().zip(&q[first..end.max(first)]);
+            let arrivals = before.map(|(pair, &q)| pair.arrival(disk, q));
             q[v] = arrivals.fold(NONE, u64::min);
+            if q[v] < NONE {
+                end = v + 1;
+            }
         }
         q
     }
