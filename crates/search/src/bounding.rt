@@ -1,4 +1,5 @@
-// Fills the table of bounds for the chain that a table holds. Each bound is the least over its candidates, and at most NONE.
+// Fills the table of bounds for the chain that a table holds. Each bound is the least over its candidates, and at most NONE. Planning calls `fill_bounds`, with a
+// table of its length and a chain whose numbers are bounded, so that no product wraps.
 ghost use Prim.Native.Nat.{_+_};
 ghost use Rattle.search.specs.Working.Stages.{Stage, BoundsOf, PutParts, PartFilled, LeastTime, LeastRisk, LeastBase, StepPut, Looked, LeastAfter, OwnIs, StoppedIs, ReadyForStopped, ReadyToPutParts, ReadyForBounds, ReadyForPart, ReadyForStep, ReadyForBase, ReadyForAhead, ReadyForAfter, ReadyForOwn, ReadyForAfters};
 use crate::bounds::BASE_START;

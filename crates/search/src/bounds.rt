@@ -1,5 +1,6 @@
 // The table of bounds on what is still to come. In a square of positions, `after` stands on and above the diagonal and `part` below it; then a column each for
-// `time`, `risk` and `base`. What they bound, and why copies may be left out by them, stands in the theory of chains.
+// `time`, `risk` and `base`. What they bound, and why copies may be left out by them, stands in the theory of chains. This crate alone calls these, with a table of
+// its length, positions within it and bounds that are capped, so that no product wraps.
 ghost use mathlib.Core.Path.{_≡_};
 ghost use Prim.Native.Nat.{_-_, min};
 ghost use Rattle.chain.specs.Working.Bounds.{slope, beyond};

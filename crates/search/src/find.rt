@@ -1,4 +1,4 @@
-// The least time of all tasks, and the disk row that has it.
+// The least time of all tasks, and the disk row that has it. Planning calls `find`, with the bounds of the chain that the table holds.
 ghost use Rattle.units.specs.Limits.{none};
 ghost use Rattle.chain.specs.Working.Search.{toDisk};
 ghost use Rattle.search.specs.Working.Rows.{Cut, LiveDisk};

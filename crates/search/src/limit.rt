@@ -1,5 +1,5 @@
 // A limit to search by: the time of the setting that the bounds take for the best. It is mostly the plan's. Nothing rests on it: where it is too low, the search is
-// made again without it.
+// made again without it. `find` alone calls `first_limit`, with what it was handed itself.
 ghost use Prim.Native.Nat.{_*_, _≤_, _<_};
 ghost use Rattle.units.specs.Limits.{none};
 ghost use Rattle.search.specs.Working.Limit.{ReadyForNext, Next, ReadyForCopy, ReadyForLimit};
