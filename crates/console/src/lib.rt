@@ -5,12 +5,12 @@ ghost use Prim.Native.Nat.{_+_, _*_, _≤_, _<_};
 ghost use lib.ListN.{length};
 ghost use Rattle.io.specs.Counts.{Counts};
 ghost use Rattle.lists.specs.Lists.{some};
-ghost use Rattle.job.specs.Job.{taskLimit};
+ghost use Rattle.units.specs.Limits.{taskLimit};
 ghost use Rattle.console.specs.Digits.{base, noDigit, TextOf, MarksOf, numberTo, inWord, NumberOf};
-use job::TASK_LIMIT;
 use libc::STDIN_FILENO;
 use libc::STDOUT_FILENO;
 use refusals::Answer;
+use units::TASK_LIMIT;
 
 // Linux hands a program no argument of more than 131,071 bytes.
 pub const ARGUMENT_ROOM: usize = 131_072;

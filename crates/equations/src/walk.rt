@@ -16,8 +16,8 @@ use chain::VERIFICATION;
 use costs::cd_at;
 use costs::cm_at;
 use job::Job;
-use job::TASK_LIMIT;
 use units::NONE;
+use units::TASK_LIMIT;
 
 // A place of the walk: v has mark k, and the last copies before it are d and m.
 pub struct Place {

@@ -9,7 +9,8 @@ use borrow.Author.Tests.{eq-eqb, ne-eqb}
 use lib.Dec.{eqb}
 use lib.ListN.{getD, replicate}
 use Rattle.chain.specs.Time.{Marks}
-use Rattle.job.specs.Job.{taskLimit, zeroJob}
+use Rattle.units.specs.Limits.{taskLimit}
+use Rattle.job.specs.Job.{zeroJob}
 use Rattle.job.specs.declared.Job.{Job}
 use Rattle.sheet.specs.Reading.{jobOf}
 use Rattle.marks.specs.Marks.{marksOf}

@@ -12,7 +12,8 @@ use Rattle.lists.specs.Lists.{some}
 use Rattle.lists.proofs.Lists.{or-fails, some-fails}
 use Rattle.refusals.specs.Refusals.{first, has, distinct}
 use Rattle.refusals.proofs.Refusals.{first-clear}
-use Rattle.job.specs.Job.{taskLimit, total, weightAt}
+use Rattle.units.specs.Limits.{taskLimit}
+use Rattle.job.specs.Job.{total, weightAt}
 use Rattle.job.specs.Checks.{badCount, badCost, badWeight, badValue, badTask, jobConditions}
 use Rattle.job.specs.Working.Sound.{CostsBounded, Sound}
 use Rattle.job.specs.declared.Job.{Job}

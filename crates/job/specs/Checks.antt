@@ -7,7 +7,8 @@ use Rattle.units.specs.Limits.{costLimit}
 use Rattle.lists.specs.Lists.{some}
 use Rattle.refusals.specs.Numbers
 use Rattle.refusals.specs.Refusals.{Condition, refusal}
-use Rattle.job.specs.Job.{taskLimit, weightAt, total, isAllowed}
+use Rattle.units.specs.Limits.{taskLimit}
+use Rattle.job.specs.Job.{weightAt, total, isAllowed}
 use Rattle.job.specs.declared.Platform.{Platform}
 use Rattle.job.specs.declared.Job.{Job}
 

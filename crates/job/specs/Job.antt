@@ -5,15 +5,9 @@ use mathlib.Core.List.{List}
 use lib.Dec.{leb}
 use lib.ListN.{getD, replicate}
 use Rattle.units.specs.Unit.{up, exponentLimit}
+use Rattle.units.specs.Limits.{taskLimit}
 use Rattle.job.specs.declared.Platform.{Platform}
 use Rattle.job.specs.declared.Job.{Job}
-
--- the most tasks; a position is 0, the start, or the end of a task
-abbrev pub taskLimit : ℕ
-taskLimit = 64
-
-abbrev pub positions : ℕ
-positions = taskLimit + 1
 
 -- the values with every field 0, which a refusal gives
 unfoldable pub zeroJob : Job

@@ -7,16 +7,17 @@ ghost use lib.ListN.{length};
 ghost use Rattle.units.specs.Limits.{costLimit};
 ghost use Rattle.lists.specs.Lists.{some};
 ghost use Rattle.refusals.specs.Refusals.{first};
-ghost use Rattle.job.specs.Job.{taskLimit, total};
+ghost use Rattle.units.specs.Limits.{taskLimit};
+ghost use Rattle.job.specs.Job.{total};
 ghost use Rattle.job.specs.Working.Sound.{ReadyForWeights};
 ghost use Rattle.job.specs.Working.Heaviest.{heaviest};
 ghost use Rattle.job.specs.Checks.{badCount, badCost, badWeight, jobConditions};
 use crate::Job;
 use crate::Platform;
-use crate::TASK_LIMIT;
 use crate::stretch::is_allowed;
 use refusals::BAD_TASK;
 use refusals::BAD_VALUE;
+use units::TASK_LIMIT;
 
 const COST_LIMIT: u32 = 1 << 30;
 

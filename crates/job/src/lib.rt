@@ -6,10 +6,7 @@ pub mod checks;
 pub mod stretch;
 pub mod totals;
 
-// The most tasks. A position is a number from 0, the start, to this.
-pub const TASK_LIMIT: usize = 64;
-
-pub const POSITIONS: usize = TASK_LIMIT + 1;
+use units::TASK_LIMIT;
 
 // The platform section: the two rates, and the costs C_D, C_M, V, R_D and R_M.
 #[repr(C)]

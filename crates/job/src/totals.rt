@@ -1,8 +1,9 @@
 // Weights as ticks, and their totals.
 ghost use mathlib.Core.Path.{_≡_};
 ghost use Prim.Native.Nat.{_*_, _≤_, _<_, _^_};
-ghost use Rattle.job.specs.Job.{taskLimit, total};
-use crate::TASK_LIMIT;
+ghost use Rattle.units.specs.Limits.{taskLimit};
+ghost use Rattle.job.specs.Job.{total};
+use units::TASK_LIMIT;
 
 pub fn wide(x: u32) -> u64
     ensures { λ r. ⌜ (r ≡ x) × (r < 2 ^ 32) ⌝ }

@@ -9,7 +9,8 @@ use Rattle.units.specs.Limits.{costLimit}
 use Rattle.refusals.specs.Numbers
 use Rattle.refusals.specs.Refusals.{refusal, first, has, distinct}
 use Rattle.refusals.proofs.Refusals.{first-clear, refused-here, refused-later, refused-none}
-use Rattle.job.specs.Job.{taskLimit, total}
+use Rattle.units.specs.Limits.{taskLimit}
+use Rattle.job.specs.Job.{total}
 use Rattle.job.specs.declared.Job.{Job}
 use Rattle.sheet.specs.Layout.{weightsLength}
 use Rattle.writing.specs.Form.{weightsStart}

@@ -5,7 +5,7 @@ use mathlib.Core.List.{List}
 use native.Mathlib.Omega.{arith}
 use lib.ListN.{length, take, drop}
 use Rattle.lists.proofs.Lists.{length-tabulate}
-use Rattle.job.specs.Job.{taskLimit}
+use Rattle.units.specs.Limits.{taskLimit}
 use Rattle.sheet.specs.Layout.{weightsKind, weightsLength}
 use Rattle.sheet.specs.Reading.{weightsOf, jobOf, sheetOf, sheetRefusal}
 use Rattle.sheet.specs.declared.Sheet.{Sheet}

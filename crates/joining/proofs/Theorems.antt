@@ -12,7 +12,7 @@ use lib.Seq.{take-append-seam}
 use Rattle.refusals.specs.Numbers
 use Rattle.refusals.specs.Refusals.{Decides}
 use Rattle.refusals.proofs.Refusals.{first-goes-on, first-none, first-decides}
-use Rattle.job.specs.Job.{taskLimit}
+use Rattle.units.specs.Limits.{taskLimit}
 use Rattle.job.specs.Checks.{badCount}
 use Rattle.job.proofs.Ranges.{values-passed}
 use Rattle.sheet.specs.Reading.{jobOf, sheetConditions, sheetRefusal, readingOf}

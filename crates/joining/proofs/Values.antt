@@ -13,7 +13,8 @@ use Rattle.units.specs.Limits.{costLimit}
 use Rattle.lists.specs.Lists.{some}
 use Rattle.lists.proofs.Lists.{and-holds, some-fails, some-none, getD-tabulate}
 use Rattle.refusals.specs.Refusals.{first}
-use Rattle.job.specs.Job.{taskLimit, weightAt, total, isAllowed}
+use Rattle.units.specs.Limits.{taskLimit}
+use Rattle.job.specs.Job.{weightAt, total, isAllowed}
 use Rattle.job.specs.Checks.{badWeight, badValue, badTask, jobConditions}
 use Rattle.job.specs.declared.Platform.{Platform}
 use Rattle.job.specs.declared.Job.{Job}

@@ -9,7 +9,8 @@ use Rattle.units.specs.Limits.{costLimit}
 use Rattle.lists.specs.Lists.{tabulate}
 use Rattle.refusals.specs.Numbers
 use Rattle.refusals.specs.Refusals.{Condition, refusal, first}
-use Rattle.job.specs.Job.{taskLimit, weightAt, total}
+use Rattle.units.specs.Limits.{taskLimit}
+use Rattle.job.specs.Job.{weightAt, total}
 use Rattle.job.specs.declared.Platform.{Platform}
 use Rattle.job.specs.declared.Job.{Job}
 use Rattle.sheet.specs.Layout.{platformKind, weightsKind, weightsLength, offset, indexOf, strayByte}

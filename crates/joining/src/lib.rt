@@ -8,7 +8,6 @@ ghost use Rattle.joining.specs.Join.{samePlatform, bothConditions, joine
 ghost use Rattle.joining.specs.Working.Ready.{refusedJoin, Both, WasRead, numberIn};
 use job::Job;
 use job::Platform;
-use job::TASK_LIMIT;
 use job::checks::TOTAL_LIMIT;
 use job::totals::weight_to;
 use refusals::ACCEPTED;
@@ -20,6 +19,7 @@ use sheet::Reading;
 use sheet::Sheet;
 use sheet::read::read;
 use sheet::read::weights_of;
+use units::TASK_LIMIT;
 use writing::put_sheet;
 use writing::sheet_length;
 use writing::weights_length;

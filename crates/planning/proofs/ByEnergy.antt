@@ -21,7 +21,7 @@ use Rattle.chain.specs.Time.{Marks, D}
 use Rattle.chain.specs.Plan.{Allowed}
 use Rattle.chain.proofs.Agree.{D-agree, allowed-agree}
 use Rattle.chain.proofs.Same.{same-allowed}
-use Rattle.job.specs.Job.{taskLimit}
+use Rattle.units.specs.Limits.{taskLimit}
 use Rattle.job.specs.declared.Job.{Job}
 use Rattle.sheet.specs.Layout.{tasks}
 use Rattle.sheet.specs.Reading.{jobOf, sheetConditions, sheetRefusal}

@@ -14,7 +14,8 @@ use Rattle.growth.proofs.Laws.{G-cap}
 use Rattle.chain.specs.Working.Factors.{Factored}
 use Rattle.chain.specs.Working.Same.{SameAllowed}
 use Rattle.chain.specs.declared.Factors.{Factors}
-use Rattle.job.specs.Job.{total, weightAt, positions, between, exponent}
+use Rattle.job.specs.Job.{total, weightAt, between, exponent}
+use Rattle.units.specs.Limits.{positions}
 use Rattle.job.specs.Working.Sound.{Sound}
 use Rattle.job.specs.declared.Job.{Job}
 use Rattle.job.specs.declared.Platform.{Platform}

@@ -11,7 +11,8 @@ use Rattle.refusals.specs.Numbers
 use Rattle.refusals.specs.Refusals.{has, distinct, Numbered}
 use Rattle.refusals.proofs.Refusals.{first-stands, first-goes-on, refused-here, refused-later, refused-none}
 use Rattle.lists.proofs.Lists.{or-fails}
-use Rattle.job.specs.Job.{taskLimit, total}
+use Rattle.units.specs.Limits.{taskLimit}
+use Rattle.job.specs.Job.{total}
 use Rattle.job.specs.declared.Job.{Job}
 use Rattle.sheet.specs.Reading.{jobOf, sheetConditions, sheetRefusal}
 use Rattle.sheet.proofs.Readings.{sheet-numbered}

@@ -21,7 +21,7 @@ use Rattle.sheet.specs.Layout.{tasks}
 use Rattle.sheet.specs.Reading.{jobOf, sheetRefusal}
 use Rattle.sheet.proofs.Readings.{sheet-layout, sheet-sound}
 use Rattle.sheet.proofs.Sections.{layout-tasks}
-use Rattle.job.specs.Job.{taskLimit}
+use Rattle.units.specs.Limits.{taskLimit}
 use Rattle.marks.specs.Marks.{marksOf}
 use Rattle.costs.specs.Stretch.{chainOf, timeOf}
 use Rattle.costs.proofs.Settings.{setting-checks}

@@ -2,7 +2,7 @@
 // that holds.
 ghost use mathlib.Core.Path.{_≡_};
 ghost use Prim.Native.Nat.{_≤_};
-ghost use Rattle.job.specs.Job.{taskLimit};
+ghost use Rattle.units.specs.Limits.{taskLimit};
 ghost use Rattle.planning.specs.Energy.{outOfRange, passes, badComputing, badSaving, badPowers, PlansByEnergy};
 ghost use Rattle.planning.specs.Working.Ready.{ReadyForProduct};
 use crate::plan_job;

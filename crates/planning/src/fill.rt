@@ -11,11 +11,11 @@ use costs::rd_at;
 use costs::rm_at;
 use costs::v_at;
 use job::Job;
-use job::POSITIONS;
 use search::table::Costs;
 use search::table::put_costs;
 use search::table::put_firsts;
 use search::table::put_pair;
+use units::POSITIONS;
 
 // The weight up to each position.
 fn totals(job: Job) -> [u64; POSITIONS]

@@ -8,7 +8,6 @@ ghost use Rattle.planning.specs.Promise.{Plans, PlansChain};
 ghost use Rattle.planning.specs.Working.Ready.{ReadyToCopy, ReadyForChain, ReadyForPowers};
 use costs::Powers;
 use job::Job;
-use job::TASK_LIMIT;
 use refusals::Answer;
 use refusals::SHORT_BUFFER;
 use refusals::TOO_SLOW;
@@ -21,6 +20,7 @@ use search::table::TABLE_LENGTH;
 use search::walk::plan_marks;
 use sheet::read::read_job;
 use units::NONE;
+use units::TASK_LIMIT;
 
 pub mod energy;
 mod fill;

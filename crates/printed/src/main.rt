@@ -1,8 +1,8 @@
 // Reads a job sheet of up to 8 tasks from standard input and prints its plan by the equations as printed: the least time, then one digit a task; or the number
 // of its refusal.
-use job::TASK_LIMIT;
 use sheet::SHEET_ROOM;
 use sheet::layout::task_count;
+use units::TASK_LIMIT;
 
 // The plan of the sheet.
 fn show(sheet: &[u8]) {

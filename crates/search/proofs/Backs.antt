@@ -14,7 +14,7 @@ use Rattle.chain.specs.Working.Walk.{Placed}
 use Rattle.chain.proofs.Bounds.{memory-after, last-after, disk-after}
 use Rattle.chain.proofs.Walk.{backD-lt, backM-lt, backM-ge, backM-reached, state-copy}
 use Rattle.chain.proofs.Placing as placing
-use Rattle.job.specs.Job.{taskLimit}
+use Rattle.units.specs.Limits.{taskLimit}
 use Rattle.search.specs.Working.Bounds.{boundsIn, apartIn}
 use Rattle.search.specs.Working.Rows.{Row, OnPlan}
 use Rattle.search.specs.Working.Table.{rdStart, rmStart, column, chainIn, arrivalAt, Bounded, ReadyForRecoveries}

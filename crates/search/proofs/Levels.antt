@@ -14,7 +14,7 @@ use Rattle.chain.specs.declared.Recoveries.{Recoveries}
 use Rattle.chain.proofs.Bounds.{recovery-rises, toMemory-rises, time-below, low-below, memory-after, last-after, disk-after}
 use Rattle.chain.proofs.Search.{way-is, back-is}
 use Rattle.chain.proofs.Walk.{backD-lt, backD-arrives, backM-lt, backM-arrives}
-use Rattle.job.specs.Job.{positions}
+use Rattle.units.specs.Limits.{positions}
 use Rattle.search.specs.Working.Bounds.{boundsIn, apartIn, Bounding}
 use Rattle.search.specs.Working.Rows.{Offered, Row, Cut, LiveCopy, OnPlan, LiveDisk, Far, OffersDisk}
 use Rattle.search.specs.Working.Table.{cmStart, cdStart, rdStart, rmStart, column, chainIn, arrivalAt}

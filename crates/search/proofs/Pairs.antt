@@ -5,7 +5,7 @@ use mathlib.Core.Path.{_≡_, refl}
 use Rattle.chain.proofs.Products.{capped}
 use native.Mathlib.Decide.{decLt}
 use native.Mathlib.Omega.{arith}
-use Rattle.job.specs.Job.{positions}
+use Rattle.units.specs.Limits.{positions}
 use Rattle.search.specs.Working.Table.{triangle, pairs, pairIndex, IsPair}
 
 triangle-double : (a : ℕ) → 2 * triangle a + a ≡ a * a

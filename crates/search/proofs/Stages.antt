@@ -19,7 +19,7 @@ use Rattle.chain.specs.Working.Search.{reach}
 use Rattle.chain.specs.declared.Factors.{Factors}
 use Rattle.chain.specs.declared.Recoveries.{Recoveries}
 use Rattle.chain.proofs.Search.{reach-start, reach-cap, reach-lower}
-use Rattle.job.specs.Job.{positions}
+use Rattle.units.specs.Limits.{positions}
 use Rattle.search.specs.Working.Bounds.{timeStart, riskStart, baseStart, boundsLength, boundsIn, apartIn}
 use Rattle.search.specs.Working.Stages.{
   Parts,

@@ -12,7 +12,7 @@ use Rattle.units.specs.Limits.{none}
 use Rattle.chain.specs.Working.Factors.{stretchOf}
 use Rattle.chain.specs.declared.Factors.{Factors}
 use Rattle.chain.specs.declared.Recoveries.{Recoveries}
-use Rattle.job.specs.Job.{positions}
+use Rattle.units.specs.Limits.{positions}
 use Rattle.search.specs.Working.Table.{
   pairs,
   pairEntries,

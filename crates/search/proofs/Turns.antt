@@ -12,7 +12,7 @@ use lib.ListN.{length, getD, set, replicate, length-set, length-replicate, getD-
 use lib.Seq.{getD-set-same, getD-set-other}
 use Rattle.chain.specs.Working.Search.{Cost, reach, way, back}
 use Rattle.chain.proofs.Search.{least-le, earliest-first, reach-start, reach-is, reach-cap, back-is}
-use Rattle.job.specs.Job.{positions}
+use Rattle.units.specs.Limits.{positions}
 use Rattle.search.specs.Working.Rows.{OfferMade, sooner, soonerFrom, Offered, Cut}
 
 -- the lesser of an arrival and what stands

@@ -14,7 +14,7 @@ use Rattle.chain.specs.Working.Factors.{stretchOf}
 use Rattle.chain.specs.Working.Search.{Cost, least, earliest, reach, way}
 use Rattle.chain.proofs.Search.{least-new, least-old, least-cap, reach-start, reach-cap, way-is, way-unreached, way-before}
 use Rattle.chain.specs.declared.Recoveries.{Recoveries}
-use Rattle.job.specs.Job.{positions}
+use Rattle.units.specs.Limits.{positions}
 use Rattle.search.specs.Working.Rows.{sooner, soonerFrom, OfferMade, Row, EndIs, Unreached}
 use Rattle.search.specs.Working.Table.{entryOf, arrivalAt}
 

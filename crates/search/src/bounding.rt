@@ -18,8 +18,8 @@ use crate::table::entry;
 use crate::table::memory_copy;
 use crate::table::memory_recovery;
 use chain::Recoveries;
-use job::POSITIONS;
 use units::NONE;
+use units::POSITIONS;
 use units::UNIT;
 use units::rounded_up;
 

@@ -8,7 +8,7 @@ ghost use Rattle.search.specs.Working.Bounds.{boundsIn, PlacesFit, Ready
 ghost use Rattle.search.specs.Working.Stages.{ReadyForDiskIn, DiskIs, ReadyForSince, SinceIs};
 use crate::table::disk_recovery;
 use crate::table::memory_copy;
-use job::POSITIONS;
+use units::POSITIONS;
 use units::UNIT;
 use units::rounded_up;
 

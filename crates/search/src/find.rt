@@ -7,8 +7,8 @@ ghost use Rattle.search.specs.Working.Walk.{Found};
 ghost use Rattle.search.specs.Working.Limit.{ReadyForLimit, ReadyForDisks};
 use crate::limit::first_limit;
 use crate::rows::disk_row;
-use job::POSITIONS;
 use units::NONE;
+use units::POSITIONS;
 
 // A disk row: least times, and the earliest positions before.
 pub struct Disks {

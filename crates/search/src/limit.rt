@@ -11,8 +11,8 @@ use crate::rows::verification_row;
 use crate::table::disk_copy;
 use crate::table::memory_copy;
 use crate::table::recoveries;
-use job::POSITIONS;
 use units::NONE;
+use units::POSITIONS;
 
 // The first memory copy after u that the bounds take for the best, with the last disk copy d; n where none before it is.
 fn next_copy(t: &[u32], b: &[u64], d: usize, u: usize, n: usize) -> usize

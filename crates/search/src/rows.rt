@@ -24,8 +24,8 @@ use crate::table::recoveries;
 use crate::table::wide;
 use chain::Recoveries;
 use chain::stretch_time;
-use job::POSITIONS;
 use units::NONE;
+use units::POSITIONS;
 
 fn later(a: usize, b: usize) -> usize
     ensures { λ r. ⌜ r ≡ max a b ⌝ }

@@ -3,11 +3,11 @@
 ghost use mathlib.Core.Path.{_≡_};
 ghost use Prim.Native.Nat.{_+_, _<_};
 ghost use lib.ListN.{length, take, drop};
-ghost use Rattle.job.specs.Job.{positions};
+ghost use Rattle.units.specs.Limits.{positions};
 ghost use Rattle.search.specs.Working.Table.{half, tableLength, cmStart, cdStart, rdStart, rmStart, firstStart, column, entryOf, putPair, putCosts, IsPair, InTable, PairFits, ReadyForPair, ReadyForCosts, InColumn, ReadyForRecoveries, RecoveriesIn, ReadyForFirsts, FirstIs, FirstsPut};
 use chain::Factors;
 use chain::Recoveries;
-use job::POSITIONS;
+use units::POSITIONS;
 
 // Pairs of positions u < v.
 const PAIRS: usize = POSITIONS * (POSITIONS - 1) / 2;

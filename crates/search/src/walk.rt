@@ -14,9 +14,9 @@ use crate::table::recoveries;
 use chain::DISK;
 use chain::MEMORY;
 use chain::VERIFICATION;
-use job::POSITIONS;
-use job::TASK_LIMIT;
 use units::NONE;
+use units::POSITIONS;
+use units::TASK_LIMIT;
 
 // A step of the walk: v has mark k, the last copies before it are d and m. `times` and `copies` are the memory row from d, `checks` the row of verifications
 // from m.

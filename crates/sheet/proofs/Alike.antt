@@ -15,7 +15,7 @@ use lib.Seq.{ext-getD, length-take-le, getD-take, getD-drop, getD-set-same, getD
 use Rattle.lists.proofs.Lists.{or-fails, and-holds, getD-tabulate}
 use Rattle.refusals.specs.Numbers
 use Rattle.refusals.specs.Refusals.{first}
-use Rattle.job.specs.Job.{taskLimit}
+use Rattle.units.specs.Limits.{taskLimit}
 use Rattle.job.specs.declared.Platform.{Platform}
 use Rattle.job.specs.declared.Job.{Job}
 use Rattle.sheet.specs.Bytes.{byteAt, fieldAt, fieldLength}

@@ -6,7 +6,8 @@ use mathlib.Core.List.{List, _++_}
 use lib.Dec.{ltb, eqb}
 use Rattle.lists.specs.Lists.{tabulate}
 use Rattle.refusals.specs.Refusals.{Condition, first}
-use Rattle.job.specs.Job.{taskLimit, zeroJob}
+use Rattle.units.specs.Limits.{taskLimit}
+use Rattle.job.specs.Job.{zeroJob}
 use Rattle.job.specs.Checks.{jobConditions}
 use Rattle.job.specs.declared.Platform.{Platform}
 use Rattle.job.specs.declared.Job.{Job}

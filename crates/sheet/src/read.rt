@@ -2,7 +2,7 @@
 ghost use mathlib.Core.Path.{_≡_};
 ghost use Prim.Native.Nat.{_<_, _≤_, _^_};
 ghost use Rattle.refusals.specs.Refusals.{first};
-ghost use Rattle.job.specs.Job.{taskLimit};
+ghost use Rattle.units.specs.Limits.{taskLimit};
 ghost use Rattle.sheet.specs.Layout.{layoutConditions};
 ghost use Rattle.sheet.specs.Reading.{sectionField, platformOf, weightsOf, jobOf, refusedReading, readingOf, Reads};
 use crate::JobReading;
@@ -18,8 +18,8 @@ use crate::lookup::find;
 use crate::lookup::lookup;
 use job::Job;
 use job::Platform;
-use job::TASK_LIMIT;
 use job::checks::job_refusal;
+use units::TASK_LIMIT;
 
 // Field i of a section, from 0: they follow its kind byte.
 fn section_field(part: &[u8], i: usize) -> u32

@@ -13,7 +13,7 @@ use lib.ListN.{length, getD, take, set, List·getD-eq-default}
 use lib.Seq.{ext-getD, getD-take, length-take-le}
 use Rattle.lists.specs.Lists.{tabulate}
 use Rattle.lists.proofs.Lists.{store-next, tabulate-same, length-tabulate, getD-tabulate}
-use Rattle.job.specs.Job.{taskLimit}
+use Rattle.units.specs.Limits.{taskLimit}
 use Rattle.job.specs.declared.Job.{Job}
 use Rattle.state.specs.State.{cleared, fresh, ZeroPast}
 use Rattle.state.specs.Working.Entries.{Entries}

@@ -9,7 +9,8 @@ use Rattle.lists.specs.Lists.{tabulate}
 use Rattle.refusals.specs.Numbers
 use Rattle.refusals.specs.Refusals.{Condition, refusal, first}
 use Rattle.chain.specs.Time.{Marks}
-use Rattle.job.specs.Job.{taskLimit, zeroJob, total}
+use Rattle.units.specs.Limits.{taskLimit}
+use Rattle.job.specs.Job.{zeroJob, total}
 use Rattle.job.specs.Checks.{badCount, jobConditions}
 use Rattle.job.specs.declared.Job.{Job}
 use Rattle.marks.specs.Marks.{marksOf, marksConditions}

@@ -7,7 +7,7 @@ pub mod positions;
 pub mod rules;
 
 use job::Job;
-use job::TASK_LIMIT;
+use units::TASK_LIMIT;
 
 // The five sums, in ticks.
 #[repr(C)]

@@ -2,7 +2,8 @@
 ghost use mathlib.Core.Path.{_≡_};
 ghost use Prim.Native.Nat.{_≤_, _<_, _^_};
 ghost use Rattle.chain.specs.Time.{last};
-ghost use Rattle.job.specs.Job.{taskLimit, weightAt};
+ghost use Rattle.units.specs.Limits.{taskLimit};
+ghost use Rattle.job.specs.Job.{weightAt};
 ghost use Rattle.state.specs.State.{marksIn};
 use crate::Run;
 use job::Job;

@@ -2,7 +2,7 @@
 ghost use mathlib.Core.Path.{_≡_};
 ghost use Prim.Native.Nat.{_≤_};
 ghost use Rattle.refusals.specs.Refusals.{first};
-ghost use Rattle.job.specs.Job.{taskLimit};
+ghost use Rattle.units.specs.Limits.{taskLimit};
 ghost use Rattle.state.specs.State.{marksIn, marksRead, valueConditions, badAwaiting, overTotal, brokenPlace, broken, finished};
 use crate::Run;
 use crate::Sums;

@@ -1,5 +1,5 @@
--- Limits of document 01 in ticks.
-use Prim.Native.Nat.{ℕ, _-_, _^_}
+-- Limits of document 01: in ticks, and of tasks.
+use Prim.Native.Nat.{ℕ, _+_, _-_, _^_}
 
 -- the limit of costs, of weights and of their total: costs are 0 to 2^30 ticks, each weight 1 to 2^30, and the weights together at most 2^30
 abbrev pub costLimit : ℕ
@@ -12,3 +12,10 @@ none = 2 ^ 34
 -- the longest time that is not too slow
 abbrev pub timeLimit : ℕ
 timeLimit = none - 1
+
+-- the most tasks; a position is 0, the start, or the end of a task
+abbrev pub taskLimit : ℕ
+taskLimit = 64
+
+abbrev pub positions : ℕ
+positions = taskLimit + 1

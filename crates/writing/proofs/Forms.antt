@@ -13,7 +13,8 @@ use Rattle.lists.specs.Lists.{tabulate}
 use Rattle.lists.proofs.Lists.{tabulate-same}
 use Rattle.refusals.specs.Numbers
 use Rattle.refusals.specs.Refusals.{first}
-use Rattle.job.specs.Job.{taskLimit, weightAt}
+use Rattle.units.specs.Limits.{taskLimit}
+use Rattle.job.specs.Job.{weightAt}
 use Rattle.job.specs.Checks.{badCount, jobConditions}
 use Rattle.job.proofs.Ranges.{count-range}
 use Rattle.job.specs.declared.Platform.{Platform}

@@ -5,7 +5,7 @@ ghost use mathlib.Core.List.{_++_};
 ghost use Prim.Native.Nat.{_+_, _*_, _≤_};
 ghost use lib.ListN.{length};
 ghost use lib.Seq.{sets};
-ghost use Rattle.job.specs.Job.{taskLimit};
+ghost use Rattle.units.specs.Limits.{taskLimit};
 ghost use Rattle.sheet.specs.Bytes.{fieldLength};
 ghost use Rattle.sheet.specs.Layout.{platformLength, weightsLength};
 ghost use Rattle.writing.specs.Form.{fieldBytes, fields, platformStart, weightsStart, header, platformSection, weightsSection, formOne, written};

@@ -5,7 +5,7 @@ use mathlib.Core.Path.{_≡_, refl}
 use native.Mathlib.Omega.{arith}
 use borrow.Author.Needs.{needs}
 use lib.ListN.{length, getD, length-set}
-use Rattle.job.specs.Job.{taskLimit}
+use Rattle.units.specs.Limits.{taskLimit}
 use Rattle.console.specs.Digits.{zero-code, base}
 use Rattle.console.proofs.Texts.{filled-more}
 use Rattle.console.proofs.digits.Statement.{statement}

@@ -2,7 +2,8 @@
 use Prim.Native.Nat.{ℕ, _+_, _-_, _≤_, _<_, _^_}
 use mathlib.Core.Path.{_≡_}
 use mathlib.Core.Bool.{false}
-use Rattle.job.specs.Job.{taskLimit, total}
+use Rattle.units.specs.Limits.{taskLimit}
+use Rattle.job.specs.Job.{total}
 use Rattle.job.specs.declared.Job.{Job}
 use Rattle.following.specs.Run.{move}
 use Rattle.state.specs.State.{broken, finished}

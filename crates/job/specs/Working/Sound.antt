@@ -3,7 +3,8 @@ use Prim.Native.Nat.{ℕ, _≤_, _<_}
 use mathlib.Core.List.{List}
 use lib.ListN.{length}
 use Rattle.units.specs.Limits.{costLimit}
-use Rattle.job.specs.Job.{taskLimit, total}
+use Rattle.units.specs.Limits.{taskLimit}
+use Rattle.job.specs.Job.{total}
 use Rattle.job.specs.declared.Platform.{Platform}
 use Rattle.job.specs.declared.Job.{Job}
 

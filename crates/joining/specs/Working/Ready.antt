@@ -4,7 +4,7 @@ use mathlib.Core.Path.{_≡_}
 use mathlib.Core.List.{List}
 use lib.ListN.{length}
 use Rattle.refusals.specs.Numbers
-use Rattle.job.specs.Job.{taskLimit}
+use Rattle.units.specs.Limits.{taskLimit}
 use Rattle.job.specs.declared.Job.{Job}
 use Rattle.sheet.specs.Reading.{sheetRefusal, sheetOf}
 use Rattle.sheet.specs.declared.Sheet.{Sheet}

@@ -5,7 +5,7 @@ use mathlib.Core.Path.{_≡_, refl}
 use mathlib.Core.List.{_++_}
 use native.Mathlib.Omega.{arith}
 use lib.ListN.{length, take, drop}
-use Rattle.job.specs.Job.{taskLimit}
+use Rattle.units.specs.Limits.{taskLimit}
 use Rattle.planning.proofs.Buffers.{written-more, written-length}
 use Rattle.planning.proofs.copy_marks.Statement.{statement}
 use Rattle.planning.proofs.copy_marks.Tie as tie

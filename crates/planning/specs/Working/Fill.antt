@@ -5,7 +5,8 @@ use mathlib.Core.Logic.{_⊎_}
 use mathlib.Core.List.{List}
 use lib.ListN.{length, getD}
 use Rattle.chain.specs.Working.Same.{SameAllowed}
-use Rattle.job.specs.Job.{total, positions}
+use Rattle.job.specs.Job.{total}
+use Rattle.units.specs.Limits.{positions}
 use Rattle.job.specs.Working.Sound.{Sound}
 use Rattle.job.specs.declared.Job.{Job}
 use Rattle.costs.specs.Costs.{cmAt, cdAt, rdAt, rmAt}

@@ -2,7 +2,7 @@
 use Prim.Native.Nat.{ℕ, _*_, _≤_, _<_, _^_}
 use mathlib.Core.List.{List}
 use lib.ListN.{length}
-use Rattle.job.specs.Job.{taskLimit}
+use Rattle.units.specs.Limits.{taskLimit}
 use Rattle.job.specs.Working.Sound.{Sound}
 use Rattle.job.specs.declared.Job.{Job}
 use Rattle.costs.specs.Energy.{ProductsFit}

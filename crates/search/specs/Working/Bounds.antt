@@ -8,7 +8,7 @@ use Rattle.units.specs.Unit.{unit, up}
 use Rattle.units.specs.Limits.{costLimit, none}
 use Rattle.chain.specs.Working.Bounds.{Apart, Bounds, baseTicks, partLow, Below}
 use Rattle.chain.specs.Working.Factors.{diskCap}
-use Rattle.job.specs.Job.{positions}
+use Rattle.units.specs.Limits.{positions}
 use Rattle.search.specs.Working.Table.{tableLength, cmStart, rdStart, rmStart, column, entryOf, chainIn, diskRecoveryCap}
 
 abbrev pub timeStart : ℕ

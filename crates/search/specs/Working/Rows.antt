@@ -12,7 +12,7 @@ use Rattle.chain.specs.Working.Bounds.{low}
 use Rattle.chain.specs.Working.Search.{Cost, reach, back, toMemory, leastM, leastD, backD}
 use Rattle.chain.specs.Working.Factors.{Recoverable}
 use Rattle.chain.specs.declared.Recoveries.{Recoveries}
-use Rattle.job.specs.Job.{positions}
+use Rattle.units.specs.Limits.{positions}
 use Rattle.search.specs.Working.Table.{rdStart, cdStart, column, chainIn, arrivalAt, Bounded}
 use Rattle.search.specs.Working.Bounds.{boundsIn, Bounding}
 

@@ -10,7 +10,7 @@ use Rattle.units.specs.Unit.{unit, up}
 use Rattle.units.specs.Limits.{none}
 use Rattle.chain.specs.Working.Bounds.{slopeCap, slope, baseTicks, beyond, partLow, leastDisk}
 use Rattle.chain.specs.Working.Factors.{diskCap}
-use Rattle.job.specs.Job.{positions}
+use Rattle.units.specs.Limits.{positions}
 use Rattle.search.specs.Working.Table.{tableLength, cmStart, cdStart, rdStart, column, chainIn, diskRecoveryCap, Bounded}
 use Rattle.search.specs.Working.Bounds.{timeStart, riskStart, baseStart, boundsLength, boundsIn, apartIn, Bounding}
 

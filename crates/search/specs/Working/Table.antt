@@ -13,7 +13,7 @@ use Rattle.chain.specs.Working.Search.{Cost}
 use Rattle.chain.specs.Working.Factors.{stretchOf, Factored, Recoverable}
 use Rattle.chain.specs.declared.Factors.{Factors}
 use Rattle.chain.specs.declared.Recoveries.{Recoveries}
-use Rattle.job.specs.Job.{positions}
+use Rattle.units.specs.Limits.{positions}
 use Rattle.search.specs.declared.table.Costs.{Costs}
 
 -- 0 + 1 + .. + (k - 1): the pairs of k positions

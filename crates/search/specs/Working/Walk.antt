@@ -8,7 +8,7 @@ use lib.ListN.{length, getD}
 use Rattle.units.specs.Limits.{none}
 use Rattle.chain.specs.Working.Search.{toVerification, toMemory, leastM, leastD, backM, backD, State}
 use Rattle.chain.specs.Working.Walk.{Place, Before}
-use Rattle.job.specs.Job.{positions}
+use Rattle.units.specs.Limits.{positions}
 use Rattle.search.specs.Working.Bounds.{boundsIn, Bounding}
 use Rattle.search.specs.Working.Rows.{Row, Cut, LiveCopy, OnPlan}
 use Rattle.search.specs.Working.Table.{chainIn, Bounded}

@@ -6,7 +6,7 @@ use native.Mathlib.Omega.{arith}
 use borrow.Author.Needs.{needs}
 use lib.ListN.{length}
 use Rattle.lists.specs.Lists.{tabulate}
-use Rattle.job.specs.Job.{taskLimit}
+use Rattle.units.specs.Limits.{taskLimit}
 use Rattle.state.specs.State.{cleared}
 use Rattle.state.proofs.Fresh.{cleared-more, cleared-all}
 use Rattle.state.proofs.first_weights.Statement.{statement}

@@ -1,7 +1,7 @@
 -- How many entries of a list a fresh run takes.
 use Prim.Native.Nat.{ℕ, _≤_}
 use mathlib.Core.Logic.{_⊎_}
-use Rattle.job.specs.Job.{taskLimit}
+use Rattle.units.specs.Limits.{taskLimit}
 
 -- the least of task count, length and room
 pub record Entries (n length most : ℕ) : Type 0 where

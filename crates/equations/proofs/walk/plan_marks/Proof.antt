@@ -7,7 +7,7 @@ use Rattle.units.specs.Limits.{none}
 use Rattle.chain.specs.Working.Walk.{OnWay, Placed}
 use Rattle.chain.proofs.Walk.{state-disk}
 use Rattle.chain.proofs.Placing.{placed-first, placed-next, placed-last}
-use Rattle.job.specs.Job.{taskLimit}
+use Rattle.units.specs.Limits.{taskLimit}
 use Rattle.costs.specs.Stretch.{chainOf}
 use Rattle.equations.specs.Working.Places.{placeOf}
 use Rattle.equations.proofs.walk.plan_marks.Statement.{statement}

@@ -3,7 +3,8 @@ use Prim.Native.Nat.{_≤_}
 use native.Mathlib.Nat.{le-trans}
 use native.Mathlib.Omega.{arith}
 use Rattle.chain.proofs.Equations.{last-le}
-use Rattle.job.specs.Job.{taskLimit, between}
+use Rattle.units.specs.Limits.{taskLimit}
+use Rattle.job.specs.Job.{between}
 use Rattle.job.proofs.Weights.{total-mono}
 use Rattle.state.specs.State.{totalOf}
 use Rattle.following.specs.Run.{backToMemory}

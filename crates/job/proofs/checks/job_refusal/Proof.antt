@@ -5,7 +5,7 @@ use borrow.Author.Needs.{needs}
 use lib.ListN.{length}
 use Rattle.units.specs.Limits.{costLimit}
 use Rattle.refusals.specs.Refusals.{first}
-use Rattle.job.specs.Job.{taskLimit}
+use Rattle.units.specs.Limits.{taskLimit}
 use Rattle.job.specs.Checks.{badValue}
 use Rattle.job.proofs.Ranges.{weight-ranges, value-passes}
 use Rattle.job.proofs.Heaviest.{heaviest-range, task-decided}

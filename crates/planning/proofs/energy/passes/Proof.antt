@@ -3,7 +3,7 @@ use Prim.Native.Nat.{_*_, _^_}
 use mathlib.Core.Path.{refl}
 use native.Mathlib.Omega.{arith}
 use Rattle.chain.proofs.Products.{capped}
-use Rattle.job.specs.Job.{taskLimit}
+use Rattle.units.specs.Limits.{taskLimit}
 use Rattle.planning.specs.Energy.{mostPower, passes}
 use Rattle.planning.proofs.energy.passes.Statement.{statement}
 use Rattle.planning.proofs.energy.passes.Tie as tie

@@ -4,7 +4,8 @@ use Prim.Native.Nat.{ℕ, _+_, _-_, _≤_}
 use mathlib.Core.Path.{_≡_}
 use native.Mathlib.Omega.{arith}
 use lib.ListN.{length-replicate}
-use Rattle.job.specs.Job.{total, positions}
+use Rattle.job.specs.Job.{total}
+use Rattle.units.specs.Limits.{positions}
 use Rattle.job.proofs.Weights.{total-more, total-range}
 use Rattle.planning.specs.Working.Fill.{Totals}
 use Rattle.planning.proofs.Fills.{totals-more}

@@ -7,7 +7,7 @@ use native.Mathlib.Omega.{arith}
 use lib.ListN.{length-replicate}
 use Rattle.units.specs.Limits.{none}
 use Rattle.chain.specs.Working.Search.{toMemory, leastM}
-use Rattle.job.specs.Job.{positions}
+use Rattle.units.specs.Limits.{positions}
 use Rattle.search.specs.Working.Rows.{LiveCopy}
 use Rattle.search.specs.Working.Table.{chainIn}
 use Rattle.search.proofs.Levels.{copy-reached, copies-offered, copies-passed}

@@ -5,7 +5,7 @@ use mathlib.Core.Path.{refl}
 use native.Mathlib.Omega.{arith}
 use lib.ListN.{length-replicate}
 use Rattle.units.specs.Limits.{none}
-use Rattle.job.specs.Job.{positions}
+use Rattle.units.specs.Limits.{positions}
 use Rattle.search.proofs.Levels.{table-row}
 use Rattle.search.proofs.Backs.{copy-range, copy-recoveries, copy-step, disk-range}
 use Rattle.search.proofs.Ranges.{bounding-less}

@@ -4,7 +4,7 @@ use mathlib.Core.Path.{refl}
 use native.Mathlib.Omega.{arith}
 use lib.ListN.{length-replicate}
 use Rattle.units.specs.Limits.{none}
-use Rattle.job.specs.Job.{positions}
+use Rattle.units.specs.Limits.{positions}
 use Rattle.search.proofs.Levels.{table-row}
 use Rattle.search.proofs.Backs.{time-here, check-range, before-mark, before-memory, before-disk, before-start, memory-range, memory-step, copy-recoveries}
 use Rattle.search.proofs.Tables.{bounded-less}

@@ -6,7 +6,7 @@ use lib.ListN.{length}
 use lib.Seq.{length-take-le}
 use Rattle.refusals.specs.Numbers
 use Rattle.refusals.proofs.Refusals.{first-stands, first-goes-on, refused-here, refused-later}
-use Rattle.job.specs.Job.{taskLimit}
+use Rattle.units.specs.Limits.{taskLimit}
 use Rattle.job.specs.Checks.{jobConditions}
 use Rattle.job.proofs.Ranges.{count-range, job-sound}
 use Rattle.state.proofs.Soundness.{job-numbered}
