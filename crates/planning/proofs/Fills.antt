@@ -26,25 +26,9 @@ use Rattle.costs.specs.Working.Factors.{energyFactorsOf, energyFactorsAt, Ready
 use Rattle.costs.specs.declared.Powers.{Powers}
 use Rattle.costs.proofs.Ranges.{cm-energy, cd-energy, rd-energy, rm-energy}
 use Rattle.costs.proofs.Stretches.{energy-factors, energy-ready, energy-decides, energy-factored}
-use Rattle.search.specs.Working.Table.{tableLength, cmStart, cdStart, rdStart, rmStart, entryOf, column, chainIn, putPair, putCosts, PairFits, Packable, Bounded, Firsts, FirstsPut}
-use Rattle.search.specs.declared.table.Costs.{Costs}
-use Rattle.search.proofs.Tables.{
-  length-putPair,
-  putPair-here,
-  putPair-apart,
-  length-putCosts,
-  putCosts-pair,
-  putCosts-cm,
-  putCosts-cd,
-  putCosts-rd,
-  putCosts-rm,
-  putCosts-cm-apart,
-  putCosts-cd-apart,
-  putCosts-rd-apart,
-  putCosts-rm-apart,
-  firsts-entry,
-  firsts-column,
-}
+use Rattle.table.specs.Working.Table.{tableLength, cmStart, cdStart, rdStart, rmStart, entryOf, column, chainIn, putPair, putCosts, PairFits, Packable, Bounded, Firsts, FirstsPut}
+use Rattle.table.specs.declared.Costs.{Costs}
+use Rattle.table.proofs.Table.{length-putPair, putPair-here, putPair-apart, length-putCosts, putCosts-pair, putCosts-cm, putCosts-cd, putCosts-rd, putCosts-rm, putCosts-cm-apart, putCosts-cd-apart, putCosts-rd-apart, putCosts-rm-apart, firsts-entry, firsts-column}
 use Rattle.planning.specs.Working.Fill.{Totals, EarlierPair, PairsTo, TableTo, TableOf}
 
 -- one total more

@@ -11,10 +11,10 @@ use costs::rd_at;
 use costs::rm_at;
 use costs::v_at;
 use job::Job;
-use search::table::Costs;
-use search::table::put_costs;
-use search::table::put_firsts;
-use search::table::put_pair;
+use table::Costs;
+use table::put_costs;
+use table::put_firsts;
+use table::put_pair;
 use units::POSITIONS;
 
 // The weight up to each position.

@@ -1,12 +1,12 @@
 // The least time of all tasks, and the disk row that has it. Planning calls `find`, with the bounds of the chain that the table holds.
 ghost use Rattle.units.specs.Limits.{none};
 ghost use Rattle.chain.specs.Working.Search.{toDisk};
-ghost use Rattle.search.specs.Working.Rows.{Cut, LiveDisk};
-ghost use Rattle.search.specs.Working.Table.{chainIn};
-ghost use Rattle.search.specs.Working.Walk.{Found};
+ghost use Rattle.copies.specs.Working.Copies.{Cut, LiveDisk};
+ghost use Rattle.table.specs.Working.Table.{chainIn};
+ghost use Rattle.walk.specs.Working.Walk.{Found};
 ghost use Rattle.search.specs.Working.Limit.{ReadyForLimit, ReadyForDisks};
 use crate::limit::first_limit;
-use crate::rows::disk_row;
+use copies::disk_row;
 use units::NONE;
 use units::POSITIONS;
 

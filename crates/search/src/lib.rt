@@ -14,10 +14,5 @@
 //     table ── bounding ── limit ── rows ── find ── walk
 //     chain    bounds      a time   least   plan's  marks
 //                                   times   time
-pub mod bounding;
-pub mod bounds;
 pub mod find;
 mod limit;
-mod rows;
-pub mod table;
-pub mod walk;

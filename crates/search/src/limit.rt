@@ -3,16 +3,16 @@
 ghost use Prim.Native.Nat.{_*_, _≤_, _<_};
 ghost use Rattle.units.specs.Limits.{none};
 ghost use Rattle.search.specs.Working.Limit.{ReadyForNext, Next, ReadyForCopy, ReadyForLimit};
-use crate::bounds::after;
-use crate::bounds::lesser;
-use crate::bounds::part_low;
-use crate::bounds::since;
-use crate::rows::verification_row;
-use crate::table::disk_copy;
-use crate::table::memory_copy;
-use crate::table::recoveries;
+use bounds::after;
+use bounds::part_low;
+use bounds::since;
+use table::disk_copy;
+use table::memory_copy;
+use table::recoveries;
 use units::NONE;
 use units::POSITIONS;
+use units::lesser;
+use verifications::verification_row;
 
 // The first memory copy after u that the bounds take for the best, with the last disk copy d; n where none before it is.
 fn next_copy(t: &[u32], b: &[u64], d: usize, u: usize, n: usize) -> usize

@@ -1,6 +1,6 @@
 // Numbers in units of 2^-24, rounding up to whole ticks, and the limits of document 01: the longest time, the most tasks.
 ghost use mathlib.Core.Path.{_≡_};
-ghost use Prim.Native.Nat.{_+_, _≤_, _^_};
+ghost use Prim.Native.Nat.{_+_, _-_, _≤_, _^_, min};
 ghost use Rattle.units.specs.Unit.{unit, up};
 
 pub const UNIT: u64 = 16_777_216;
@@ -22,4 +22,23 @@ pub fn rounded_up(p: u64) -> u64
     ensures { λ r. ⌜ r ≡ up p ⌝ }
 {
     (p + (UNIT - 1)) / UNIT
+}
+
+pub fn lesser(a: u64, b: u64) -> u64
+    ensures { λ r. ⌜ r ≡ min a b ⌝ }
+{
+    if a < b {
+        return a;
+    }
+    b
+}
+
+// a - b, and 0 where b is more.
+pub fn excess(a: u64, b: u64) -> u64
+    ensures { λ r. ⌜ r ≡ a - b ⌝ }
+{
+    if a < b {
+        return 0;
+    }
+    a - b
 }

@@ -4,8 +4,8 @@ use mathlib.Core.Path.{sym}
 use native.Mathlib.Omega.{arith}
 use native.Mathlib.Nat.{le-trans, le-of-eq, lt-of-le-of-lt}
 use lib.ListN.{length-replicate}
-use Rattle.search.specs.Working.Bounds.{boundsLength}
-use Rattle.search.proofs.Ranges.{chainIn-rises}
+use Rattle.bounds.specs.Working.Bounds.{boundsLength}
+use Rattle.bounds.proofs.Bounds.{chainIn-rises}
 use Rattle.planning.proofs.Promises.{slow-answer, plan-answer}
 use borrow.Author.Needs.{needs}
 use Rattle.planning.proofs.plan_chain.Statement.{statement}

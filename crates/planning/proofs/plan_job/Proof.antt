@@ -1,7 +1,7 @@
 -- `planning::plan_job` meets its contract. The table holds the job's chain in energy, so the plan of the one is that of the other. Assumes nothing.
 use Prim.Native.Nat.{ℕ}
 use lib.ListN.{length-replicate}
-use Rattle.search.specs.Working.Table.{tableLength}
+use Rattle.table.specs.Working.Table.{tableLength}
 use Rattle.planning.proofs.Promises.{plans-same}
 use borrow.Author.Needs.{needs}
 use Rattle.planning.proofs.plan_job.Statement.{statement}

@@ -13,7 +13,7 @@ use Rattle.costs.specs.Costs.{cmAt, cdAt, rdAt, rmAt}
 use Rattle.costs.specs.Energy.{energyChain, ProductsFit}
 use Rattle.costs.specs.Working.Factors.{energyFactorsAt, FactorsIfAllowed}
 use Rattle.costs.specs.declared.Powers.{Powers}
-use Rattle.search.specs.Working.Table.{tableLength, cmStart, cdStart, rdStart, rmStart, entryOf, column, chainIn, Bounded}
+use Rattle.table.specs.Working.Table.{tableLength, cmStart, cdStart, rdStart, rmStart, entryOf, column, chainIn, Bounded}
 
 -- the weight up to each position, up to position k
 pub record Totals (w : List ℕ) (k : ℕ) (sums : List ℕ) : Type 0 where

@@ -7,7 +7,7 @@ use Rattle.job.specs.Working.Sound.{Sound}
 use Rattle.job.specs.declared.Job.{Job}
 use Rattle.costs.specs.Energy.{ProductsFit}
 use Rattle.costs.specs.declared.Powers.{Powers}
-use Rattle.search.specs.Working.Table.{Bounded}
+use Rattle.table.specs.Working.Table.{Bounded}
 use Rattle.planning.specs.Energy.{mostPower}
 
 pub record ReadyToCopy (buffer : List ℕ) (n : ℕ) : Type 0 where

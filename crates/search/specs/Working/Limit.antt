@@ -2,9 +2,9 @@
 use Prim.Native.Nat.{ℕ, _≤_, _<_}
 use mathlib.Core.List.{List}
 use Rattle.units.specs.Limits.{none}
-use Rattle.search.specs.Working.Bounds.{Bounding}
-use Rattle.search.specs.Working.Stages.{BoundsOf}
-use Rattle.search.specs.Working.Table.{Bounded}
+use Rattle.bounds.specs.Working.Bounds.{Bounding}
+use Rattle.bounds.specs.Working.Bounds.{BoundsOf}
+use Rattle.table.specs.Working.Table.{Bounded}
 
 pub record ReadyForNext (t b : List ℕ) (d u n : ℕ) : Type 0 where
   pub bounded : Bounded n t

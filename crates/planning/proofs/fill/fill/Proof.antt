@@ -2,7 +2,7 @@
 use Prim.Native.Nat.{_+_, _-_, _≤_}
 use mathlib.Core.Path.{_≡_, sym, _∙_}
 use native.Mathlib.Omega.{arith}
-use Rattle.search.proofs.Tables.{firsts-put}
+use Rattle.table.proofs.Table.{firsts-put}
 use Rattle.planning.specs.Working.Fill.{PairsTo}
 use Rattle.planning.proofs.Fills.{pairs-none, table-firsts, table-of}
 use borrow.Author.Needs.{needs}

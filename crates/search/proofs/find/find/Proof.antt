@@ -1,6 +1,6 @@
 -- `search::find::find` meets its contract. What is found within the limit is the least; and no plan below none is past the longest time. Assumes nothing.
 use native.Mathlib.Omega.{arith}
-use Rattle.search.proofs.Levels.{found-within, found-last}
+use Rattle.search.proofs.Found.{found-within, found-last}
 use borrow.Author.Needs.{needs}
 use Rattle.search.proofs.find.find.Statement.{statement}
 use Rattle.search.proofs.find.find.Tie as tie

@@ -2,7 +2,7 @@
 use native.Mathlib.Omega.{arith}
 use Rattle.units.specs.Limits.{none}
 use Rattle.chain.proofs.Search.{reach-cap}
-use Rattle.search.specs.Working.Table.{arrivalAt}
+use Rattle.table.specs.Working.Table.{arrivalAt}
 use borrow.Author.Needs.{needs}
 use Rattle.search.proofs.limit.copy_time.Statement.{statement}
 use Rattle.search.proofs.limit.copy_time.Tie as tie

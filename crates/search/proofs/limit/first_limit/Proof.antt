@@ -2,7 +2,7 @@
 use Prim.Native.Nat.{_-_, _≤_}
 use native.Mathlib.Omega.{arith}
 use Rattle.units.specs.Limits.{none}
-use Rattle.search.proofs.Tables.{bounded-less}
+use Rattle.table.proofs.Table.{bounded-less}
 use borrow.Author.Needs.{needs}
 use Rattle.search.proofs.limit.first_limit.Statement.{statement}
 use Rattle.search.proofs.limit.first_limit.Tie as tie

@@ -1,7 +1,7 @@
 -- `search::limit::next_copy` meets its contract. The loop's invariant: v lies after u, up to n. The measure is what is left of the positions. Assumes nothing.
 use Prim.Native.Nat.{_-_, _≤_, _<_}
 use native.Mathlib.Omega.{arith}
-use Rattle.search.proofs.Ranges.{base-cap}
+use Rattle.bounds.proofs.Bounds.{base-cap}
 use Rattle.search.proofs.limit.next_copy.Statement.{statement}
 use Rattle.search.proofs.limit.next_copy.Tie as tie
 
