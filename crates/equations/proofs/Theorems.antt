@@ -19,7 +19,8 @@ use Rattle.chain.proofs.Lower.{leastD-lower}
 use Rattle.chain.proofs.Theorems.{plan-is-least, plan-is-determined}
 use Rattle.costs.specs.Stretch.{chainOf}
 use Rattle.costs.proofs.Stretches.{S-rises}
-use Rattle.planning.specs.Promise.{Planned, Plans}
+use Rattle.answers.specs.Promise.{Planned}
+use Rattle.planning.specs.Promise.{Plans}
 use Rattle.planning.proofs.Theorems.{plan-once, plan-says}
 use Rattle.equations.specs.Equations.{E-disk}
 use Rattle.equations.specs.Promise.{printedLimit, printedRefusal, PlansAsPrinted, SameAsPlan}

@@ -11,7 +11,7 @@ use Rattle.refusals.specs.declared.Answer.{Answer}
 use Rattle.job.specs.declared.Job.{Job}
 use Rattle.sheet.specs.Reading.{jobOf, sheetConditions, sheetRefusal}
 use Rattle.costs.specs.Stretch.{chainOf}
-use Rattle.planning.specs.Promise.{PlansChecked}
+use Rattle.answers.specs.Promise.{PlansChecked}
 
 -- 'an engine for up to 8 tasks'
 abbrev pub printedLimit : ℕ

@@ -1,10 +1,10 @@
 // The equations of section 3.1 of source document 000, run as printed: the plan of a sheet of up to 8 tasks, without a table, or the first refusal that holds.
 ghost use Rattle.costs.specs.Stretch.{chainOf};
-ghost use Rattle.planning.specs.Promise.{PlansChain};
+ghost use Rattle.answers.specs.Promise.{PlansChain};
 ghost use Rattle.planning.specs.Working.Ready.{ReadyForJob};
 ghost use Rattle.equations.specs.Promise.{PlansAsPrinted};
+use answers::copy_marks;
 use job::Job;
-use planning::copy_marks;
 use refusals::Answer;
 use refusals::LONG_CHAIN;
 use refusals::SHORT_BUFFER;

@@ -25,7 +25,8 @@ use Rattle.costs.specs.Costs.{vAt, cmAt, cdAt, rdAt, rmAt, verifyPaid, savesPai
 use Rattle.costs.specs.Stretch.{S, chainOf, timeOf}
 use Rattle.costs.specs.Energy.{energyS, energyChain, energyOf}
 use Rattle.pricing.specs.Price.{priceRefusal, priceOf}
-use Rattle.planning.specs.Energy.{outOfRange, passes, badComputing, badSaving, badPowers, energyRefusal, PlansByEnergy}
+use Rattle.powers.specs.Powers.{outOfRange, passes, badComputing, badSaving, badPowers}
+use Rattle.planning.specs.Energy.{energyRefusal, PlansByEnergy}
 use Rattle.planning.proofs.ByEnergy.{energy-least}
 use Rattle.state.specs.State.{cleared, fresh, zeroRun, totalOf, brokenValues, badAwaiting, overTotal, brokenPlace, broken, finished}
 use Rattle.following.specs.Run.{afterDone, afterPassed, backToMemory, backToDisk, placeAfter, nextPlace, outOfTurn, overWeight, stepRefusal, stepOf}

@@ -34,9 +34,11 @@ use Rattle.costs.proofs.Stretches.{S-rises, energy-rises}
 use Rattle.costs.proofs.Dearer.{each, raised-by}
 use Rattle.pricing.specs.Price.{priceRefusal, priceOf}
 use Rattle.pricing.proofs.Dearer.{booking-holds}
-use Rattle.planning.specs.Promise.{PlansChecked, Free, Plans}
-use Rattle.planning.specs.Energy.{outOfRange, passes, badComputing, badSaving, badPowers, energyRefusal}
-use Rattle.planning.proofs.Theorems.{plan-computed, slow-computed}
+use Rattle.answers.specs.Promise.{PlansChecked, Free}
+use Rattle.planning.specs.Promise.{Plans}
+use Rattle.powers.specs.Powers.{outOfRange, passes, badComputing, badSaving, badPowers}
+use Rattle.planning.specs.Energy.{energyRefusal}
+use Rattle.answers.proofs.Answers.{plan-computed, slow-computed}
 use Rattle.planning.proofs.Dearer.{plan-raised}
 use Rattle.examples.specs.Starred.{headerA, platformA, weightsA, sheetA, powers}
 use Rattle.examples.specs.Offers.{

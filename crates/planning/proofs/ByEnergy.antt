@@ -35,11 +35,15 @@ use Rattle.costs.specs.declared.Powers.{Powers}
 use Rattle.costs.proofs.Ranges.{plain-products}
 use Rattle.costs.proofs.Settings.{checks-setting, setting-checks}
 use Rattle.costs.proofs.Stretches.{energy-rises, plain-same}
-use Rattle.planning.specs.Promise.{Refused, AnswerSays, Plans}
-use Rattle.planning.specs.Energy.{mostPower, badPowers, energyRefusal, PlansByEnergy, LeastEnergy, PowersFit, SamePower}
-use Rattle.planning.proofs.Powers.{powers-fit, energy-sheet, energy-bad, energy-clear}
-use Rattle.planning.proofs.Promises.{plans-same}
-use Rattle.planning.proofs.Theorems.{ResultSays, checked-once, checked-result, checked-refused, plan-once, chain-says, front-length}
+use Rattle.answers.specs.Promise.{Refused, AnswerSays}
+use Rattle.planning.specs.Promise.{Plans}
+use Rattle.powers.specs.Powers.{mostPower, badPowers, PowersFit}
+use Rattle.planning.specs.Energy.{energyRefusal, PlansByEnergy, LeastEnergy, SamePower}
+use Rattle.powers.proofs.Powers.{powers-fit}
+use Rattle.planning.proofs.EnergyRefusals.{energy-sheet, energy-bad, energy-clear}
+use Rattle.answers.proofs.Promises.{plans-same}
+use Rattle.answers.proofs.Answers.{ResultSays, checked-once, checked-result, checked-refused, chain-says, front-length}
+use Rattle.planning.proofs.Theorems.{plan-once}
 
 -- 'Exponents keep the plain weights': the same settings are allowed
 pub energy-allowed : (powers : Powers) (job : Job) (n : ℕ) (g : Marks) → Allowed (energyChain powers job) n g ↔ Allowed (chainOf job) n g

@@ -21,9 +21,11 @@ use Rattle.costs.specs.declared.Powers.{Powers}
 use Rattle.costs.proofs.Stretches.{S-rises, energy-rises}
 use Rattle.costs.proofs.Dearer.{raised-dearer, chain-dearer, energy-dearer}
 use Rattle.pricing.specs.Dearer.{NotSooner}
-use Rattle.planning.specs.Promise.{AllSlow, PlansChecked, Free, Plans}
+use Rattle.answers.specs.Promise.{AllSlow, PlansChecked, Free}
+use Rattle.planning.specs.Promise.{Plans}
 use Rattle.planning.specs.Energy.{energyConditions, energyRefusal, PlansByEnergy}
-use Rattle.planning.proofs.Theorems.{ResultSays, SlowSays, checked-result, checked-slow, some-task}
+use Rattle.answers.proofs.Answers.{ResultSays, SlowSays, checked-result, checked-slow}
+use Rattle.planning.proofs.Theorems.{some-task}
 use Rattle.planning.proofs.ByEnergy.{energy-some-task}
 
 -- the chain c, after its checks and with its buffer, and a chain c' that is nowhere cheaper, after its own and with another

@@ -13,7 +13,8 @@ use Rattle.joining.specs.Join.{Joins, JoinRefused}
 use Rattle.joining.specs.declared.Joined.{Joined}
 use Rattle.pricing.specs.Price.{priceOf}
 use Rattle.costs.specs.declared.Powers.{Powers}
-use Rattle.planning.specs.Promise.{Refused, Plans}
+use Rattle.answers.specs.Promise.{Refused}
+use Rattle.planning.specs.Promise.{Plans}
 use Rattle.planning.specs.Energy.{PlansByEnergy}
 use Rattle.equations.specs.Promise.{PlansAsPrinted}
 use Rattle.following.specs.Start.{refusedStart, startOf}

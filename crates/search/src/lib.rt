@@ -11,8 +11,38 @@
 // they take for the best; and a row of copies is filled only where the bounds leave room below that limit. Verification rows are exact; rows of copies are never too
 // low, and exact wherever the plan goes. What is not found within the first limit is looked for again up to the longest time, so nothing rests on the limit.
 //
-//     table ── bounding ── limit ── rows ── find ── walk
-//     chain    bounds      a time   least   plan's  marks
-//                                   times   time
-pub mod find;
-mod limit;
+//     table ── verifications ── bounds ── bounding ── copies ── finding ── walk
+//     chain    rows of Q        what is   bounds      rows of    plan's     marks
+//                               to come   filled      M and D    time
+ghost use Rattle.table.specs.Working.Table.{chainIn};
+ghost use Rattle.answers.specs.Promise.{PlansChain};
+ghost use Rattle.search.specs.Working.Ready.{ReadyForChain};
+use answers::copy_marks;
+use bounding::fill_bounds;
+use bounds::BOUNDS_LENGTH;
+use finding::find;
+use refusals::Answer;
+use refusals::TOO_SLOW;
+use refusals::accepted;
+use refusals::refused;
+use units::NONE;
+use walk::plan_marks;
+
+// The plan of the chain that the table holds, of n tasks, for a buffer that holds its marks. The time is known to fit before a byte is written.
+pub fn plan_chain(t: &[u32], n: usize, buffer: &mut [u8]) -> Answer
+    requires { ⌜ ReadyForChain (now t) n (now buffer) ⌝ }
+    ensures { λ r. ⌜ PlansChain (chainIn (now (t .entry))) n (now (buffer .entry)) (now (buffer .exit)) r ⌝ }
+{
+    let mut bounds = [0u64; BOUNDS_LENGTH];
+    fill_bounds(&mut bounds, t, n);
+    let disks = find(t, &bounds, n);
+    let time = disks.time;
+    let backs = disks.backs;
+    let least = time[n];
+    if NONE <= least {
+        return refused(TOO_SLOW);
+    }
+    let marks = plan_marks(t, &bounds, &time, &backs, n);
+    copy_marks(buffer, marks, n);
+    accepted(least)
+}

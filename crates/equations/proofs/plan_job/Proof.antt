@@ -2,7 +2,7 @@
 -- Assumes nothing.
 use native.Mathlib.Nat.{le-trans, le-of-eq}
 use Rattle.costs.proofs.Stretches.{S-rises}
-use Rattle.planning.proofs.Promises.{slow-answer, plan-answer}
+use Rattle.answers.proofs.Promises.{slow-answer, plan-answer}
 use borrow.Author.Needs.{needs}
 use Rattle.equations.proofs.plan_job.Statement.{statement}
 use Rattle.equations.proofs.plan_job.Tie as tie

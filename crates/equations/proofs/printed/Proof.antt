@@ -4,7 +4,7 @@ use mathlib.Core.Path.{sym, _∙_, ap}
 use native.Mathlib.Omega.{arith}
 use Rattle.sheet.specs.declared.JobReading.{JobReading}
 use Rattle.sheet.proofs.Readings.{reading-number, reading-job, sheet-sound}
-use Rattle.planning.proofs.Promises.{checked-answer, short-answer, chain-answer}
+use Rattle.answers.proofs.Promises.{checked-answer, short-answer, chain-answer}
 use Rattle.equations.proofs.Answers.{printed-sheet, printed-long, printed-clear}
 use borrow.Author.Needs.{needs}
 use Rattle.equations.proofs.printed.Statement.{statement}

@@ -7,7 +7,7 @@ use Rattle.sheet.specs.declared.JobReading.{JobReading}
 use Rattle.sheet.proofs.Readings.{reading-number, reading-job, sheet-sound}
 use Rattle.costs.proofs.Ranges.{plain-products}
 use Rattle.costs.proofs.Stretches.{plain-same}
-use Rattle.planning.proofs.Promises.{plans-same, checked-answer, short-answer, chain-answer}
+use Rattle.answers.proofs.Promises.{plans-same, checked-answer, short-answer, chain-answer}
 use borrow.Author.Needs.{needs}
 use Rattle.planning.proofs.plan.Statement.{statement}
 use Rattle.planning.proofs.plan.Tie as tie

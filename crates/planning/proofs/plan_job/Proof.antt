@@ -2,7 +2,7 @@
 use Prim.Native.Nat.{ℕ}
 use lib.ListN.{length-replicate}
 use Rattle.table.specs.Working.Table.{tableLength}
-use Rattle.planning.proofs.Promises.{plans-same}
+use Rattle.answers.proofs.Promises.{plans-same}
 use borrow.Author.Needs.{needs}
 use Rattle.planning.proofs.plan_job.Statement.{statement}
 use Rattle.planning.proofs.plan_job.Tie as tie

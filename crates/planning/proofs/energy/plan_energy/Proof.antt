@@ -5,8 +5,9 @@ use native.Mathlib.Omega.{arith}
 use borrow.Author.Tests.{ltb-true, ltb-false}
 use Rattle.sheet.specs.declared.JobReading.{JobReading}
 use Rattle.sheet.proofs.Readings.{reading-number, reading-job, sheet-sound}
-use Rattle.planning.proofs.Powers.{energy-sheet, energy-bad, energy-clear, powers-fit}
-use Rattle.planning.proofs.Promises.{checked-answer, short-answer, chain-answer}
+use Rattle.planning.proofs.EnergyRefusals.{energy-sheet, energy-bad, energy-clear}
+use Rattle.powers.proofs.Powers.{powers-fit}
+use Rattle.answers.proofs.Promises.{checked-answer, short-answer, chain-answer}
 use borrow.Author.Needs.{needs}
 use Rattle.planning.proofs.energy.plan_energy.Statement.{statement}
 use Rattle.planning.proofs.energy.plan_energy.Tie as tie

@@ -1,0 +1,2 @@
+-- The laws of a table that is filled.
+pub mod Fills

@@ -1,0 +1,86 @@
+// Fills the search's table with the chain of a job in energy, which by the powers 1 and 1 is its time: the factors of each stretch that is allowed, a near end
+// and a far end, then the costs of each position.
+ghost use Prim.Native.Nat.{_+_};
+ghost use Rattle.job.specs.Working.Sound.{Sound};
+ghost use Rattle.filling.specs.Working.Fill.{Totals, PairsTo, TableTo, TableOf, ReadyForPairs, ReadyForCosts, ReadyToFill};
+use costs::Powers;
+use costs::cd_at;
+use costs::cm_at;
+use costs::factors_if_allowed;
+use costs::rd_at;
+use costs::rm_at;
+use costs::v_at;
+use job::Job;
+use table::Costs;
+use table::put_costs;
+use table::put_firsts;
+use table::put_pair;
+use units::POSITIONS;
+
+// The weight up to each position.
+fn totals(job: Job) -> [u64; POSITIONS]
+    requires { ⌜ Sound job ⌝ }
+    ensures { λ r. ⌜ Totals (job .weights) (job .tasks) r ⌝ }
+{
+    let n = job.tasks;
+    let weights = job.weights;
+    let mut sums = [0u64; POSITIONS];
+    let mut j: usize = 0;
+    while j < n {
+        sums[j + 1] = sums[j] + (weights[j] as u64);
+        j += 1;
+    }
+    sums
+}
+
+// The stretches from the near end u to each far end.
+fn fill_pairs(t: &mut [u32], powers: Powers, job: Job, sums: &[u64], u: usize)
+    requires { ⌜ ReadyForPairs powers job (now sums) u (now t) ⌝ }
+    ensures { λ _. ⌜ PairsTo powers job (u + 1) (u + 2) (now (t .exit)) ⌝ }
+{
+    let job = job;
+    let n = job.tasks;
+    let platform = job.platform;
+    let mut v = u + 1;
+    while v <= n {
+        let f = factors_if_allowed(powers, platform, sums[v] - sums[u], v_at(job, v));
+        put_pair(t, u, v, f);
+        v += 1;
+    }
+}
+
+// The costs of each position.
+fn fill_costs(t: &mut [u32], powers: Powers, job: Job)
+    requires { ⌜ ReadyForCosts powers job (now t) ⌝ }
+    ensures { λ _. ⌜ TableTo powers job (job .tasks + 1) (now (t .exit)) ⌝ }
+{
+    let job = job;
+    let n = job.tasks;
+    let mut v: usize = 0;
+    while v <= n {
+        let cm = powers.saving * cm_at(job, v);
+        let cd = powers.saving * cd_at(job, v);
+        let rd = powers.saving * rd_at(job, v);
+        let rm = powers.saving * rm_at(job, v);
+        put_costs(t, v, Costs { cm, cd, rd, rm });
+        v += 1;
+    }
+}
+
+// The chain of the job in energy. Planning alone calls this, with a table of the search's length and a job that has passed checks 3, 7 and 8 and whose products
+// with the powers fit.
+pub fn fill(t: &mut [u32], powers: Powers, job: Job)
+    requires { ⌜ ReadyToFill powers job (now t) ⌝ }
+    ensures { λ _. ⌜ TableOf powers job (now (t .exit)) ⌝ }
+{
+    let job = job;
+    let n = job.tasks;
+    let sums = totals(job);
+    let mut u: usize = 0;
+    while u < n {
+        fill_pairs(t, powers, job, &sums, u);
+        u += 1;
+    }
+    fill_costs(t, powers, job);
+    put_firsts(t, n);
+}

@@ -1,0 +1,2 @@
+-- The laws of a row that a limit cuts.
+pub mod Found

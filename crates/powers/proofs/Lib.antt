@@ -1,0 +1,2 @@
+-- The laws of powers that fit.
+pub mod Powers
