@@ -1,10 +1,13 @@
-// Fills the table of bounds for the chain that a table holds. Each bound is the least over its candidates, and at most NONE. Planning calls `fill_bounds`, with a
-// table of its length and a chain whose numbers are bounded, so that no product wraps.
+// Fills the table of bounds for the chain that a table holds. Each bound is the least over its candidates, and at most NONE. The search calls `fill_bounds`, with a
+// table that is long enough and a chain whose numbers are bounded, so that no product wraps.
+ghost use mathlib.Core.Path.{_≡_};
 ghost use Prim.Native.Nat.{_+_};
-ghost use Rattle.bounding.specs.Working.Stages.{Stage, PutParts, PartFilled, LeastTime, LeastRisk, LeastBase, StepPut, Looked, LeastAfter, OwnIs, StoppedIs, ReadyForStopped, ReadyToPutParts, ReadyForBounds, ReadyForPart, ReadyForStep, ReadyForBase, ReadyForAhead, ReadyForAfter, ReadyForOwn, ReadyForAfters};
-ghost use Rattle.bounds.specs.Working.Bounds.{BoundsOf};
+ghost use lib.ListN.{set};
+ghost use Rattle.bounding.specs.Working.Stages.{Stage, PutParts, PartFilled, LeastTime, LeastRisk, LeastBase, StepPut, Looked, LeastAfter, OwnIs, StoppedIs, ReadyForStopped, ReadyToPutParts, ReadyForBounds, ReadyForPart, ReadyForStep, ReadyForBase, ReadyForRisk, ReadyForAhead, ReadyForAfter, ReadyForOwn, ReadyForAfters};
+ghost use Rattle.bounds.specs.Working.Bounds.{squareAt, PlacesFit, BoundsOf};
 use bounds::BASE_START;
 use bounds::RISK_START;
+use bounds::SQUARE_START;
 use bounds::TIME_START;
 use bounds::after;
 use bounds::least_disk;
@@ -12,10 +15,11 @@ use bounds::part;
 use bounds::since;
 use bounds::slope;
 use chain::Recoveries;
-use table::disk_copy;
+use table::CD_START;
+use table::CM_START;
+use table::RM_START;
+use table::column_at;
 use table::entry;
-use table::memory_copy;
-use table::memory_recovery;
 use units::NONE;
 use units::POSITIONS;
 use units::UNIT;
@@ -27,14 +31,22 @@ use verifications::verification_row;
 // Two entries for each position.
 const AHEAD_LENGTH: usize = 2 * POSITIONS;
 
+// Puts x into the square.
+fn put_square(b: &mut [u64], n: usize, row: usize, at: usize, x: u64)
+    requires { ⌜ PlacesFit n (now b) row at ⌝ }
+    ensures { λ _. ⌜ now (b .exit) ≡ set (now (b .entry)) (squareAt n row at) x ⌝ }
+{
+    b[SQUARE_START + (n + 1) * row + at] = x;
+}
+
 // The row of verifications from m goes below the diagonal.
 fn put_parts(b: &mut [u64], q: &[u64], m: usize, n: usize)
     requires { ⌜ ReadyToPutParts (now b) (now q) m n ⌝ }
-    ensures { λ _. ⌜ PutParts (now (b .entry)) (now (q .entry)) m (n + 1) (now (b .exit)) ⌝ }
+    ensures { λ _. ⌜ PutParts n (now (b .entry)) (now (q .entry)) m (n + 1) (now (b .exit)) ⌝ }
 {
     let mut v = m + 1;
     while v <= n {
-        b[POSITIONS * v + m] = q[v];
+        put_square(b, n, v, m, q[v]);
         v += 1;
     }
 }
@@ -45,21 +57,21 @@ fn fill_part(b: &mut [u64], q: &mut [u64], t: &[u32], m: usize, n: usize)
     ensures { λ _. ⌜ PartFilled m n (now (t .entry)) (now (b .exit)) (now (q .exit)) ⌝ }
 {
     let disk = UNIT * b[BASE_START + m];
-    let memory = memory_recovery(t, m);
+    let memory = column_at(t, RM_START, m);
     verification_row(q, t, Recoveries { disk, memory }, m, n);
     put_parts(b, q, m, n);
 }
 
 // The least time of a memory copy at v.
-fn least_time(b: &[u64], t: &[u32], v: usize) -> u64
-    requires { ⌜ ReadyForStep (now b) (now t) v ⌝ }
-    ensures { λ r. ⌜ LeastTime (now (b .entry)) (now (t .entry)) v r ⌝ }
+fn least_time(b: &[u64], n: usize, t: &[u32], v: usize) -> u64
+    requires { ⌜ ReadyForStep n (now b) (now t) v ⌝ }
+    ensures { λ r. ⌜ LeastTime n (now (b .entry)) (now (t .entry)) v r ⌝ }
 {
-    let copy = memory_copy(t, v);
+    let copy = column_at(t, CM_START, v);
     let mut best = NONE;
     let mut u: usize = 0;
     while u < v {
-        best = lesser(b[TIME_START + u] + part(b, u, v) + copy, best);
+        best = lesser(b[TIME_START + u] + part(b, n, u, v) + copy, best);
         u += 1;
     }
     best
@@ -79,7 +91,7 @@ fn stopped(t: &[u32], u: usize, v: usize) -> u64
 
 // The least sum of G(y_s + y_f) - G(y_s) on the way to v.
 fn least_risk(b: &[u64], t: &[u32], v: usize) -> u64
-    requires { ⌜ ReadyForStep (now b) (now t) v ⌝ }
+    requires { ⌜ ReadyForRisk (now b) (now t) v ⌝ }
     ensures { λ r. ⌜ LeastRisk (now (b .entry)) (now (t .entry)) v r ⌝ }
 {
     let mut best = NONE;
@@ -106,11 +118,11 @@ fn least_base(b: &[u64], t: &[u32], v: usize) -> u64
 }
 
 // The time, the risk and the base of v.
-fn put_step(b: &mut [u64], t: &[u32], v: usize)
-    requires { ⌜ ReadyForStep (now b) (now t) v ⌝ }
-    ensures { λ _. ⌜ StepPut (now (b .entry)) (now (t .entry)) v (now (b .exit)) ⌝ }
+fn put_step(b: &mut [u64], n: usize, t: &[u32], v: usize)
+    requires { ⌜ ReadyForStep n (now b) (now t) v ⌝ }
+    ensures { λ _. ⌜ StepPut n (now (b .entry)) (now (t .entry)) v (now (b .exit)) ⌝ }
 {
-    let time = least_time(b, t, v);
+    let time = least_time(b, n, t, v);
     let risk = least_risk(b, t, v);
     b[TIME_START + v] = time;
     b[RISK_START + v] = risk;
@@ -131,7 +143,7 @@ fn fill_steps(b: &mut [u64], t: &[u32], n: usize)
     while m < n {
         fill_part(b, &mut q, t, m, n);
         m += 1;
-        put_step(b, t, m);
+        put_step(b, n, t, m);
     }
 }
 
@@ -144,7 +156,7 @@ fn look_ahead(ahead: &mut [u64], b: &[u64], t: &[u32], u: usize, n: usize) -> us
     let mut end = u + 1;
     let mut v = u + 1;
     while v <= n {
-        let time = part(b, u, v) + memory_copy(t, v);
+        let time = part(b, n, u, v) + column_at(t, CM_START, v);
         ahead[2 * v] = time;
         ahead[2 * v + 1] = slope(b, u, v);
         v += 1;
@@ -154,15 +166,15 @@ fn look_ahead(ahead: &mut [u64], b: &[u64], t: &[u32], u: usize, n: usize) -> us
 }
 
 // The least of what comes after the memory copy u, over the next one, with the last disk copy d and R_D' + M' = x beyond the base of u.
-fn least_after(ahead: &[u64], b: &[u64], d: usize, x: u64, u: usize, end: usize) -> u64
-    requires { ⌜ ReadyForAfter (now ahead) (now b) d x u end ⌝ }
-    ensures { λ r. ⌜ LeastAfter (now (ahead .entry)) (now (b .entry)) d x u end r ⌝ }
+fn least_after(ahead: &[u64], b: &[u64], n: usize, d: usize, x: u64, u: usize, end: usize) -> u64
+    requires { ⌜ ReadyForAfter n (now ahead) (now b) d x u end ⌝ }
+    ensures { λ r. ⌜ LeastAfter n (now (ahead .entry)) (now (b .entry)) d x u end r ⌝ }
 {
     let mut best = NONE;
     let mut v = u + 1;
     while v < end {
         best = lesser(
-            ahead[2 * v] + rounded_up(ahead[2 * v + 1] * x) + after(b, d, v),
+            ahead[2 * v] + rounded_up(ahead[2 * v + 1] * x) + after(b, n, d, v),
             best,
         );
         v += 1;
@@ -178,7 +190,7 @@ fn after_disk(ahead: &[u64], b: &[u64], t: &[u32], u: usize, end: usize, n: usiz
     if u == n {
         return 0;
     }
-    least_after(ahead, b, u, since(b, t, u, u), u, end)
+    least_after(ahead, b, n, u, since(b, t, u, u), u, end)
 }
 
 // What comes after the copy u, for each last disk copy d: the next memory copy, or a disk copy at u.
@@ -187,12 +199,12 @@ fn fill_column(b: &mut [u64], ahead: &[u64], t: &[u32], u: usize, end: usize, n:
     ensures { λ _. ⌜ Stage u n (now (t .entry)) (now (b .exit)) ⌝ }
 {
     let own = after_disk(ahead, b, t, u, end, n);
-    b[POSITIONS * u + u] = own;
-    let at_disk = disk_copy(t, u) + own;
+    put_square(b, n, u, u, own);
+    let at_disk = column_at(t, CD_START, u) + own;
     let mut d: usize = 0;
     while d < u {
-        let next = least_after(ahead, b, d, since(b, t, d, u), u, end);
-        b[POSITIONS * d + u] = lesser(at_disk, next);
+        let next = least_after(ahead, b, n, d, since(b, t, d, u), u, end);
+        put_square(b, n, d, u, lesser(at_disk, next));
         d += 1;
     }
 }

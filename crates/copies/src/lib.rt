@@ -12,9 +12,10 @@ ghost use Rattle.copies.specs.Working.Copies.{Offered, Cut, LiveCopy, Li
 use bounds::after;
 use bounds::beyond;
 use bounds::part_low;
-use table::disk_copies;
+use table::CD_START;
+use table::CM_START;
+use table::column_of;
 use table::entry;
-use table::memory_copies;
 use table::recoveries;
 use table::wide;
 use units::NONE;
@@ -46,20 +47,29 @@ fn offer_copies(
 
 // The last memory copy that can still matter after that at m: its bound is below the time that its entry has, and leaves room for what comes after. It is m where
 // there is none.
-fn far(time: &[u64], t: &[u32], b: &[u64], d: usize, m: usize, left: u64, top: usize) -> usize
-    requires { ⌜ ReadyForFar (now time) (now t) (now b) d m top ⌝ }
-    ensures { λ r. ⌜ Far (now (time .entry)) (now (t .entry)) (now (b .entry)) d m left top r ⌝ }
+fn far(
+    time: &[u64],
+    t: &[u32],
+    b: &[u64],
+    n: usize,
+    d: usize,
+    m: usize,
+    left: u64,
+    top: usize,
+) -> usize
+    requires { ⌜ ReadyForFar n (now time) (now t) (now b) d m top ⌝ }
+    ensures { λ r. ⌜ Far n (now (time .entry)) (now (t .entry)) (now (b .entry)) d m left top r ⌝ }
 {
     let mt = time[m];
-    if left <= mt + after(b, d, m) {
+    if left <= mt + after(b, n, d, m) {
         return m;
     }
     let r = recoveries(t, d, m, mt);
     let disk = beyond(b, m, r.disk);
     let mut v = top;
     while m < v {
-        let room = excess(left, after(b, d, v));
-        if mt + part_low(b, t, m, disk, v) < lesser(time[v], room) {
+        let room = excess(left, after(b, n, d, v));
+        if mt + part_low(b, n, t, m, disk, v) < lesser(time[v], room) {
             return v;
         }
         v -= 1;
@@ -75,26 +85,27 @@ fn offer_memory(time: &mut [u64], backs: &mut [usize], t: &[u32], d: usize, m: u
     let r = recoveries(t, d, m, time[m]);
     let mut q = [NONE; POSITIONS];
     verification_row(&mut q, t, r, m, top);
-    offer_copies(time, backs, m, &q, memory_copies(t), top);
+    offer_copies(time, backs, m, &q, column_of(t, CM_START), top);
 }
 
-// The least M(v) from the disk copy d, for each v up to the top, cut where what comes after leaves no room: less than `left` from d to the end.
+// The least M(v) from the disk copy d, for each v up to the top, of n tasks in all, cut where what comes after leaves no room: less than `left` from d to the end.
 pub fn memory_row(
     time: &mut [u64],
     backs: &mut [usize],
     t: &[u32],
     b: &[u64],
+    n: usize,
     d: usize,
     left: u64,
     top: usize,
 )
-    requires { ⌜ ReadyForMemoryRow (now time) (now backs) (now t) (now b) d left top ⌝ }
-    ensures { λ _. ⌜ Cut none d (toMemory (chainIn (now (t .entry))) none d) (LiveCopy (now (t .entry)) (now (b .entry)) d left) top (now (time .exit)) (now (backs .exit)) ⌝ }
+    requires { ⌜ ReadyForMemoryRow n (now time) (now backs) (now t) (now b) d left top ⌝ }
+    ensures { λ _. ⌜ Cut none d (toMemory (chainIn (now (t .entry))) none d) (LiveCopy n (now (t .entry)) (now (b .entry)) d left) top (now (time .exit)) (now (backs .exit)) ⌝ }
 {
     time[d] = 0;
     let mut m = d;
     while m < top {
-        let last = far(time, t, b, d, m, left, top);
+        let last = far(time, t, b, n, d, m, left, top);
         if m < last {
             offer_memory(time, backs, t, d, m, last);
         }
@@ -117,8 +128,8 @@ fn offer_disk(
 {
     let mut mt = [NONE; POSITIONS];
     let mut from = [0usize; POSITIONS];
-    memory_row(&mut mt, &mut from, t, b, d, left, n);
-    offer_copies(time, backs, d, &mt, disk_copies(t), n);
+    memory_row(&mut mt, &mut from, t, b, n, d, left, n);
+    offer_copies(time, backs, d, &mt, column_of(t, CD_START), n);
 }
 
 // The least D(v), for each v up to n, cut where what comes after leaves no room: at most `limit` from the start to the end, and less than what is found.
@@ -131,7 +142,7 @@ pub fn disk_row(time: &mut [u64], backs: &mut [usize], t: &[u32], b: &[u64], lim
     while d < n {
         let bound = lesser(limit + 1, time[n]);
         let start = time[d];
-        if start + after(b, d, d) < bound {
+        if start + after(b, n, d, d) < bound {
             offer_disk(time, backs, t, b, d, bound - start, n);
         }
         d += 1;

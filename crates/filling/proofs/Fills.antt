@@ -1,8 +1,9 @@
 -- The table is filled pair by pair and position by position: what is put is there, and what was there stays. A filled table holds the job's chain in energy,
 -- within bounds.
 -- Assumes nothing.
+use native.Mathlib.Nat.{le-trans}
 use Prim.Native.Nat.{ℕ, _+_, _-_, _*_, _≤_, _<_}
-use mathlib.Core.Path.{_≡_, _∙_}
+use mathlib.Core.Path.{_≡_, _∙_, refl}
 use mathlib.Core.Logic.{inl, inr, _≢_}
 use mathlib.Core.List.{List}
 use native.Mathlib.Decide.{ℕ-discrete}
@@ -26,9 +27,9 @@ use Rattle.costs.specs.Working.Factors.{energyFactorsOf, energyFactorsAt, Ready
 use Rattle.costs.specs.declared.Powers.{Powers}
 use Rattle.costs.proofs.Ranges.{cm-energy, cd-energy, rd-energy, rm-energy}
 use Rattle.costs.proofs.Stretches.{energy-factors, energy-ready, energy-decides, energy-factored}
-use Rattle.table.specs.Working.Table.{tableLength, cmStart, cdStart, rdStart, rmStart, entryOf, column, chainIn, putPair, putCosts, PairFits, Packable, Bounded, Firsts, FirstsPut}
-use Rattle.table.specs.declared.Costs.{Costs}
-use Rattle.table.proofs.Table.{length-putPair, putPair-here, putPair-apart, length-putCosts, putCosts-pair, putCosts-cm, putCosts-cd, putCosts-rd, putCosts-rm, putCosts-cm-apart, putCosts-cd-apart, putCosts-rd-apart, putCosts-rm-apart, firsts-entry, firsts-column}
+use Rattle.table.specs.Working.Table.{needed, cmStart, cdStart, rdStart, rmStart, entryOf, column, chainIn, putPair, PairFits, Packable, Bounded, Firsts, FirstsPut}
+use Rattle.table.proofs.Pairs.{needed-less}
+use Rattle.table.proofs.Table.{length-putPair, putPair-here, putPair-apart, column-here, column-apart, column-entry, firsts-entry, firsts-column}
 use Rattle.filling.specs.Working.Fill.{Totals, EarlierPair, PairsTo, TableTo, TableOf}
 
 -- one total more
@@ -71,7 +72,7 @@ factors-packable powers p W v f h =
       both = omega (arith, h .both, G-cap (exponent (p .silent) W + exponent (p .failstop) W));
     }
 
-pub pairs-none : (powers : Powers) (job : Job) (t : List ℕ) → length t ≡ tableLength → PairsTo powers job 0 1 t
+pub pairs-none : (powers : Powers) (job : Job) (t : List ℕ) → needed (job .tasks) ≤ length t → PairsTo powers job 0 1 t
 pairs-none powers job t e = record { long = e; pairs = λ x y h k l. absurd (none x y h l) }
   where
     none : (x y : ℕ) → x < y → EarlierPair x y 0 1 → ⊥
@@ -84,12 +85,12 @@ module _ (powers : Powers) (job : Job) (u v : ℕ) (t : List ℕ) (h : PairsTo p
       → PairsTo powers job u (v + 1) (putPair t u v f)
   pairs-more k l few f e =
       record {
-        long = length-putPair t u v f fits ∙ h .long;
+        long = omega (arith, length-putPair t u v f fits, h .long);
         pairs = λ x y a b c. at x y a b c (ℕ-discrete x u) (ℕ-discrete y v);
       }
     where
       fits : PairFits t u v
-      fits = record { long = h .long; pair = record { order = k; few = omega arith } }
+      fits = record { long = le-trans (needed-less v (job .tasks) l) (h .long); pair = record { order = k; few = omega arith } }
 
       earlier : (x y : ℕ) → (x ≡ u → y ≡ v → ⊥) → EarlierPair x y u (v + 1) → EarlierPair x y u v
       earlier x y n (inl z) = inl z
@@ -129,45 +130,100 @@ table-first powers job t h =
       rm = λ v k. absurd (omega arith);
     }
 
--- the costs of a position as the job gives them
-pub record CostsOf (powers : Powers) (job : Job) (v : ℕ) (c : Costs) : Type 0 where
-  pub cm : c .cm ≡ powers .saving * cmAt job v
-  pub cd : c .cd ≡ powers .saving * cdAt job v
-  pub rd : c .rd ≡ powers .saving * rdAt job v
-  pub rm : c .rm ≡ powers .saving * rmAt job v
-
-module _ (powers : Powers) (job : Job) (k : ℕ) (t : List ℕ) (h : TableTo powers job k t) (few : job .tasks < positions) (here : k ≤ job .tasks) (c : Costs) (is : CostsOf powers job k c) where
-  -- one column with its entry at k
-  column-more : (start : ℕ) (cost : ℕ → ℕ) → ((v : ℕ) → v < k → column start t v ≡ cost v) → column start (putCosts t k c) k ≡ cost k
-      → ((w : ℕ) → w < positions → w ≢ k → column start (putCosts t k c) w ≡ column start t w)
-      → (v : ℕ) → v < k + 1 → column start (putCosts t k c) v ≡ cost v
-  column-more start cost old new apart v l = go (ℕ-discrete v k)
+-- a column has its entries before k, with the cost that the job gives at each
+module _ (cost : ℕ → ℕ) (start k : ℕ) (t : List ℕ) (old : (v : ℕ) → v < k → column start t v ≡ cost v) where
+  -- one entry more
+  column-more : start + k < length t → (v : ℕ) → v < k + 1 → column start (set t (start + k) (cost k)) v ≡ cost v
+  column-more h v l = go (ℕ-discrete v k)
     where
-      go : Dec (v ≡ k) → column start (putCosts t k c) v ≡ cost v
-      go (yes e) = rw e new
-      go (no e) = apart v (omega arith) e ∙ old v (omega arith)
+      go : Dec (v ≡ k) → column start (set t (start + k) (cost k)) v ≡ cost v
+      go (yes e) = rw e (column-here t (start + k) (cost k) start k refl h)
+      go (no e) = column-apart t (start + k) (cost k) start v (λ z. e (omega arith)) ∙ old v (omega arith)
 
-  room : k < positions
-  room = omega arith
+  -- an entry of another column changes none of them
+  column-kept : (i x : ℕ) → ((v : ℕ) → v < k → start + v ≢ i) → (v : ℕ) → v < k → column start (set t i x) v ≡ cost v
+  column-kept i x apart v l = column-apart t i x start v (apart v l) ∙ old v l
 
-  pub table-more : TableTo powers job (k + 1) (putCosts t k c)
-  table-more =
-      record {
-        long = length-putCosts t k c ∙ h .long;
-        pairs = λ x y a b. rw (putCosts-pair t k c x y (record { order = a; few = omega arith })) (h .pairs x y a b);
-        cm = column-more cmStart (λ v. powers .saving * cmAt job v) (h .cm) (putCosts-cm t k c (h .long) room ∙ is .cm) (putCosts-cm-apart t k c (h .long) room);
-        cd = column-more cdStart (λ v. powers .saving * cdAt job v) (h .cd) (putCosts-cd t k c (h .long) room ∙ is .cd) (putCosts-cd-apart t k c (h .long) room);
-        rd = column-more rdStart (λ v. powers .saving * rdAt job v) (h .rd) (putCosts-rd t k c (h .long) room ∙ is .rd) (putCosts-rd-apart t k c (h .long) room);
-        rm = column-more rmStart (λ v. powers .saving * rmAt job v) (h .rm) (putCosts-rm t k c (h .long) room ∙ is .rm) (putCosts-rm-apart t k c (h .long) room);
-      }
+-- the table with the four costs of the position k
+module _ (powers : Powers) (job : Job) (k : ℕ) where
+  abbrev cm : ℕ → ℕ
+  cm v = powers .saving * cmAt job v
+
+  abbrev cd : ℕ → ℕ
+  cd v = powers .saving * cdAt job v
+
+  abbrev rd : ℕ → ℕ
+  rd v = powers .saving * rdAt job v
+
+  abbrev rm : ℕ → ℕ
+  rm v = powers .saving * rmAt job v
+
+  abbrev put-cm : List ℕ → List ℕ
+  put-cm t = set t (cmStart + k) (cm k)
+
+  abbrev put-cd : List ℕ → List ℕ
+  put-cd t = set (put-cm t) (cdStart + k) (cd k)
+
+  abbrev put-rd : List ℕ → List ℕ
+  put-rd t = set (put-cd t) (rdStart + k) (rd k)
+
+  abbrev pub put-costs : List ℕ → List ℕ
+  put-costs t = set (put-rd t) (rmStart + k) (rm k)
+
+  module _ (t : List ℕ) (h : TableTo powers job k t) (few : job .tasks < positions) (here : k ≤ job .tasks) where
+    pub costs-long : length (put-costs t) ≡ length t
+    costs-long =
+        length-set (put-rd t) (rmStart + k) (rm k)
+        ∙ length-set (put-cd t) (rdStart + k) (rd k)
+        ∙ length-set (put-cm t) (cdStart + k) (cd k)
+        ∙ length-set t (cmStart + k) (cm k)
+
+    pub table-more : TableTo powers job (k + 1) (put-costs t)
+    table-more =
+        record {
+          long = omega (arith, costs-long, h .long);
+          pairs =
+              λ x y a b.
+              rw (
+                column-entry (put-rd t) (rmStart + k) (rm k) x y (omega arith),
+                column-entry (put-cd t) (rdStart + k) (rd k) x y (omega arith),
+                column-entry (put-cm t) (cdStart + k) (cd k) x y (omega arith),
+                column-entry t (cmStart + k) (cm k) x y (omega arith),
+              )
+              (h .pairs x y a b);
+          cm =
+              column-kept cm cmStart (k + 1) (put-rd t)
+              (column-kept cm cmStart (k + 1) (put-cd t)
+              (column-kept cm cmStart (k + 1) (put-cm t) (column-more cm cmStart k t (h .cm) (omega (arith, h .long))) (cdStart + k) (cd k) (λ v l e. omega arith))
+              (rdStart + k) (rd k) (λ v l e. omega arith))
+              (rmStart + k) (rm k) (λ v l e. omega arith);
+          cd =
+              column-kept cd cdStart (k + 1) (put-rd t)
+              (column-kept cd cdStart (k + 1) (put-cd t)
+              (column-more cd cdStart k (put-cm t) (column-kept cd cdStart k t (h .cd) (cmStart + k) (cm k) (λ v l e. omega arith)) (omega (arith, h .long, length-set t (cmStart + k) (cm k))))
+              (rdStart + k) (rd k) (λ v l e. omega arith))
+              (rmStart + k) (rm k) (λ v l e. omega arith);
+          rd =
+              column-kept rd rdStart (k + 1) (put-rd t)
+              (column-more rd rdStart k (put-cd t)
+              (column-kept rd rdStart k (put-cm t) (column-kept rd rdStart k t (h .rd) (cmStart + k) (cm k) (λ v l e. omega arith)) (cdStart + k) (cd k) (λ v l e. omega arith))
+              (omega (arith, h .long, length-set t (cmStart + k) (cm k), length-set (put-cm t) (cdStart + k) (cd k))))
+              (rmStart + k) (rm k) (λ v l e. omega arith);
+          rm =
+              column-more rm rmStart k (put-rd t)
+              (column-kept rm rmStart k (put-cd t)
+              (column-kept rm rmStart k (put-cm t) (column-kept rm rmStart k t (h .rm) (cmStart + k) (cm k) (λ v l e. omega arith)) (cdStart + k) (cd k) (λ v l e. omega arith))
+              (rdStart + k) (rd k) (λ v l e. omega arith))
+              (omega (arith, h .long, length-set t (cmStart + k) (cm k), length-set (put-cm t) (cdStart + k) (cd k), length-set (put-cd t) (rdStart + k) (rd k)));
+        }
 
 -- the firsts change nothing else
 pub table-firsts : (powers : Powers) (job : Job) (k : ℕ) (t t' : List ℕ) → job .tasks < positions → k ≤ positions → TableTo powers job k t → FirstsPut t k t'
     → TableTo powers job k t'
 table-firsts powers job k t t' few room h put =
     record {
-      long = put .long ∙ h .long;
-      pairs = λ x y a b. rw (firsts-entry t k t' put x y (record { order = a; few = omega arith })) (h .pairs x y a b);
+      long = omega (arith, put .long, h .long);
+      pairs = λ x y a b. rw (firsts-entry t k t' put x y) (h .pairs x y a b);
       cm = λ v l. firsts-column t k t' put cmStart (omega arith) v (omega arith) ∙ h .cm v l;
       cd = λ v l. firsts-column t k t' put cdStart (omega arith) v (omega arith) ∙ h .cd v l;
       rd = λ v l. firsts-column t k t' put rdStart (omega arith) v (omega arith) ∙ h .rd v l;

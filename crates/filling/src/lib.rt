@@ -11,9 +11,12 @@ use costs::rd_at;
 use costs::rm_at;
 use costs::v_at;
 use job::Job;
-use table::Costs;
-use table::put_costs;
+use table::CD_START;
+use table::CM_START;
+use table::RD_START;
+use table::RM_START;
 use table::put_firsts;
+use table::put_in_column;
 use table::put_pair;
 use units::POSITIONS;
 
@@ -58,11 +61,10 @@ fn fill_costs(t: &mut [u32], powers: Powers, job: Job)
     let n = job.tasks;
     let mut v: usize = 0;
     while v <= n {
-        let cm = powers.saving * cm_at(job, v);
-        let cd = powers.saving * cd_at(job, v);
-        let rd = powers.saving * rd_at(job, v);
-        let rm = powers.saving * rm_at(job, v);
-        put_costs(t, v, Costs { cm, cd, rd, rm });
+        put_in_column(t, CM_START, v, powers.saving * cm_at(job, v));
+        put_in_column(t, CD_START, v, powers.saving * cd_at(job, v));
+        put_in_column(t, RD_START, v, powers.saving * rd_at(job, v));
+        put_in_column(t, RM_START, v, powers.saving * rm_at(job, v));
         v += 1;
     }
 }

@@ -14,7 +14,7 @@ use Rattle.table.specs.Working.Table.{chainIn}
 use Rattle.walk.specs.Working.Walk.{Found}
 
 -- what a row cut by a limit has found
-module _ (t b : List ℕ) (n limit : ℕ) (ends : boundsIn b .after n n ≡ 0) (limited : limit < none) (time backs : List ℕ)
+module _ (t b : List ℕ) (n limit : ℕ) (ends : boundsIn n b .after n n ≡ 0) (limited : limit < none) (time backs : List ℕ)
     (cut : Cut none 0 (toDisk (chainIn t) none) (LiveDisk t b limit n) n time backs) where
   not-low : leastD (chainIn t) none n ≤ getD time n 0
   unfolding leastD

@@ -6,8 +6,9 @@ ghost use Rattle.finding.specs.Working.Limit.{ReadyForNext, Next, ReadyF
 use bounds::after;
 use bounds::part_low;
 use bounds::since;
-use table::disk_copy;
-use table::memory_copy;
+use table::CD_START;
+use table::CM_START;
+use table::column_at;
 use table::recoveries;
 use units::NONE;
 use units::POSITIONS;
@@ -20,10 +21,10 @@ fn next_copy(t: &[u32], b: &[u64], d: usize, u: usize, n: usize) -> usize
     ensures { λ r. ⌜ Next u n r ⌝ }
 {
     let x = since(b, t, d, u);
-    let rest = after(b, d, u);
+    let rest = after(b, n, d, u);
     let mut v = u + 1;
     while v < n {
-        if part_low(b, t, u, x, v) + after(b, d, v) == rest {
+        if part_low(b, n, t, u, x, v) + after(b, n, d, v) == rest {
             return v;
         }
         v += 1;
@@ -39,7 +40,7 @@ fn copy_time(t: &[u32], d: usize, u: usize, mt: u64, v: usize) -> u64
     let r = recoveries(t, d, u, mt);
     let mut q = [NONE; POSITIONS];
     verification_row(&mut q, t, r, u, v);
-    mt + q[v] + memory_copy(t, v)
+    mt + q[v] + column_at(t, CM_START, v)
 }
 
 // The time of that setting, and at most the longest time.
@@ -55,8 +56,8 @@ pub fn first_limit(t: &[u32], b: &[u64], n: usize) -> u64
         let v = next_copy(t, b, d, u, n);
         in_memory = lesser(NONE, copy_time(t, d, u, in_memory, v));
         u = v;
-        if after(b, d, v) == disk_copy(t, v) + after(b, v, v) {
-            on_disk = lesser(NONE, on_disk + in_memory + disk_copy(t, v));
+        if after(b, n, d, v) == column_at(t, CD_START, v) + after(b, n, v, v) {
+            on_disk = lesser(NONE, on_disk + in_memory + column_at(t, CD_START, v));
             in_memory = 0;
             d = v;
         }

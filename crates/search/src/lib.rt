@@ -19,7 +19,6 @@ ghost use Rattle.answers.specs.Promise.{PlansChain};
 ghost use Rattle.search.specs.Working.Ready.{ReadyForChain};
 use answers::copy_marks;
 use bounding::fill_bounds;
-use bounds::BOUNDS_LENGTH;
 use finding::find;
 use refusals::Answer;
 use refusals::TOO_SLOW;
@@ -28,21 +27,21 @@ use refusals::refused;
 use units::NONE;
 use walk::plan_marks;
 
-// The plan of the chain that the table holds, of n tasks, for a buffer that holds its marks. The time is known to fit before a byte is written.
-pub fn plan_chain(t: &[u32], n: usize, buffer: &mut [u8]) -> Answer
-    requires { ⌜ ReadyForChain (now t) n (now buffer) ⌝ }
+// The plan of the chain that the table t holds, of n tasks, for a buffer that holds its marks; b is lent for the bounds. Planning calls this, with arrays that are long
+// enough for n. The time is known to fit before a byte is written.
+pub fn plan_chain(t: &[u32], b: &mut [u64], n: usize, buffer: &mut [u8]) -> Answer
+    requires { ⌜ ReadyForChain (now t) (now b) n (now buffer) ⌝ }
     ensures { λ r. ⌜ PlansChain (chainIn (now (t .entry))) n (now (buffer .entry)) (now (buffer .exit)) r ⌝ }
 {
-    let mut bounds = [0u64; BOUNDS_LENGTH];
-    fill_bounds(&mut bounds, t, n);
-    let disks = find(t, &bounds, n);
+    fill_bounds(b, t, n);
+    let disks = find(t, b, n);
     let time = disks.time;
     let backs = disks.backs;
     let least = time[n];
     if NONE <= least {
         return refused(TOO_SLOW);
     }
-    let marks = plan_marks(t, &bounds, &time, &backs, n);
+    let marks = plan_marks(t, b, &time, &backs, n);
     copy_marks(buffer, marks, n);
     accepted(least)
 }

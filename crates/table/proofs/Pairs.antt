@@ -1,4 +1,4 @@
--- Where pairs of positions stand: no two pairs have the same place, and all places lie within the table. The pairs of the far end v fill the places from
+-- Where pairs of positions stand: no two pairs have the same place, and all places lie within a table that is long enough. The pairs of the far end v fill the places from
 -- triangle v to triangle (v + 1). Assumes nothing.
 use Prim.Native.Nat.{ℕ, zero, suc, _+_, _-_, _*_, _/_, _≤_, _<_}
 use mathlib.Core.Path.{_≡_, refl}
@@ -6,7 +6,7 @@ use Rattle.chain.proofs.Products.{capped}
 use native.Mathlib.Decide.{decLt}
 use native.Mathlib.Omega.{arith}
 use Rattle.units.specs.Limits.{positions}
-use Rattle.table.specs.Working.Table.{triangle, pairs, pairIndex, IsPair}
+use Rattle.table.specs.Working.Table.{triangle, needed, tableLength, pairIndex, IsPair}
 
 triangle-double : (a : ℕ) → 2 * triangle a + a ≡ a * a
 unfolding triangle
@@ -29,13 +29,24 @@ triangle-mono a (suc b) h = go (decLt a b) (triangle-mono a b)
     go (yes l) ih = omega (arith, ih l)
     go (no l) ih = let e : a ≡ b = omega arith in rw e (omega arith)
 
-pairs-are : triangle positions ≡ pairs
-unfolding triangle
-pairs-are = refl
+pub triangle-le : (a b : ℕ) → a ≤ b → triangle a ≤ triangle b
+triangle-le a b h = go (decLt a b)
+  where
+    go : Dec (a < b) → triangle a ≤ triangle b
+    go (yes l) = omega (arith, triangle-mono a b l)
+    go (no l) = let e : a ≡ b = omega arith in rw e (omega arith)
 
-pub pair-within : (u v : ℕ) → IsPair u v → pairIndex u v < pairs
-unfolding pairIndex
-pair-within u v p = omega (arith, p .order, triangle-mono v positions (p .few), pairs-are)
+-- a table that is long enough for n tasks is long enough for fewer
+pub needed-less : (v n : ℕ) → v ≤ n → needed v ≤ needed n
+needed-less v n h = omega (arith, triangle-le (suc v) (suc n) (omega arith))
+
+-- and that of the longest chain for every chain
+pub needed-most : (n : ℕ) → n < positions → needed n ≤ tableLength
+needed-most n h = omega (arith, triangle-le (suc n) positions (omega arith), triangle-is positions (omega arith))
+
+pub pair-within : (u v : ℕ) → IsPair u v → pairIndex u v < triangle (suc v)
+unfolding pairIndex triangle
+pair-within u v p = omega (arith, p .order)
 
 place-apart : (a b i j : ℕ) → i < a → j < b → triangle a + i ≡ triangle b + j → (a ≡ b) × (i ≡ j)
 place-apart a b i j h k e = go (decLt a b) (decLt b a)

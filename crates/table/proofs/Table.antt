@@ -4,6 +4,7 @@ use mathlib.Core.Path.{_≡_, refl, _∙_}
 use mathlib.Core.Logic.{_≢_, _⊎_, inl, inr}
 use mathlib.Core.List.{List, [], _∷_}
 use native.Mathlib.Decide.{decLt, ℕ-discrete}
+use native.Mathlib.Nat.{le-trans}
 use native.Mathlib.Omega.{arith}
 use borrow.Author.Tests.{eq-eqb, ne-eqb}
 use lib.ListN.{length, getD, set, take, drop, length-set, length-drop}
@@ -13,9 +14,8 @@ use Rattle.chain.specs.Working.Factors.{stretchOf}
 use Rattle.chain.specs.declared.Factors.{Factors}
 use Rattle.chain.specs.declared.Recoveries.{Recoveries}
 use Rattle.units.specs.Limits.{positions}
-use Rattle.table.specs.Working.Table.{pairs, pairEntries, half, pairIndex, pairAt, cmStart, cdStart, rdStart, rmStart, tableLength, entryOf, column, arrivalAt, IsPair, PairFits, put, putPair, putCosts, Bounded, firstStart, Firsts, FirstIs, FirstsPut}
-use Rattle.table.specs.declared.Costs.{Costs}
-use Rattle.table.proofs.Pairs.{pair-within, pair-apart}
+use Rattle.table.specs.Working.Table.{half, firstStart, pairsStart, pairEntries, pairIndex, pairAt, entryOf, column, arrivalAt, IsPair, PairFits, put, putPair, Bounded, Firsts, FirstIs, FirstsPut}
+use Rattle.table.proofs.Pairs.{needed-less, pair-within, pair-apart}
 
 -- pairValues put from a place on
 pub length-put : (t : List ℕ) (i : ℕ) (xs : List ℕ) → length (put t i xs) ≡ length t
@@ -96,101 +96,37 @@ module _ (t : List ℕ) (u v : ℕ) (f : Factors) (fits : PairFits t u v) where
       other : (k : ℕ) → k < pairEntries → getD (putPair t u v f) (pairAt x y + k) 0 ≡ getD t (pairAt x y + k) 0
       other k h = putPair-other (pairAt x y + k) (side (decLt (pairIndex x y) (pairIndex u v)) (decLt (pairIndex u v) (pairIndex x y)) k h)
 
-module _ (t : List ℕ) (v : ℕ) (c : Costs) where
-  pub length-putCosts : length (putCosts t v c) ≡ length t
-  unfolding putCosts
-  length-putCosts =
-      length-set (set (set (set t (cmStart + v) (c .cm)) (cdStart + v) (c .cd)) (rdStart + v) (c .rd)) (rmStart + v) (c .rm)
-      ∙ length-set (set (set t (cmStart + v) (c .cm)) (cdStart + v) (c .cd)) (rdStart + v) (c .rd)
-      ∙ length-set (set t (cmStart + v) (c .cm)) (cdStart + v) (c .cd)
-      ∙ length-set t (cmStart + v) (c .cm)
+-- one entry of a column
+module _ (t : List ℕ) (i x : ℕ) where
+  pub column-here : (start v : ℕ) → start + v ≡ i → i < length t → column start (set t i x) v ≡ x
+  unfolding column
+  column-here start v e h = rw e (getD-set-same t i x 0 h)
 
-  -- an entry that is in no column at v
-  putCosts-other : (i : ℕ) → i ≢ cmStart + v → i ≢ cdStart + v → i ≢ rdStart + v → i ≢ rmStart + v → getD (putCosts t v c) i 0 ≡ getD t i 0
-  unfolding putCosts
-  putCosts-other i a b d e =
-      getD-set-other (set (set (set t (cmStart + v) (c .cm)) (cdStart + v) (c .cd)) (rdStart + v) (c .rd)) (rmStart + v) i (c .rm) 0 e
-      ∙ getD-set-other (set (set t (cmStart + v) (c .cm)) (cdStart + v) (c .cd)) (rdStart + v) i (c .rd) 0 d
-      ∙ getD-set-other (set t (cmStart + v) (c .cm)) (cdStart + v) i (c .cd) 0 b
-      ∙ getD-set-other t (cmStart + v) i (c .cm) 0 a
+  -- every other entry stays
+  pub column-apart : (start v : ℕ) → start + v ≢ i → column start (set t i x) v ≡ column start t v
+  unfolding column
+  column-apart start v n = getD-set-other t i (start + v) x 0 n
 
-  -- every pair stays
-  pub putCosts-pair : (x y : ℕ) → IsPair x y → entryOf (putCosts t v c) x y ≡ entryOf t x y
+  pub column-entry : (u v : ℕ) → i < pairsStart → entryOf (set t i x) u v ≡ entryOf t u v
   unfolding entryOf
-  putCosts-pair x y q =
-      let within : pairIndex x y < pairs = pair-within x y q in
-      rw (
-        putCosts-other (pairAt x y) (λ e. omega arith) (λ e. omega arith) (λ e. omega arith) (λ e. omega arith),
-        putCosts-other (pairAt x y + 1) (λ e. omega arith) (λ e. omega arith) (λ e. omega arith) (λ e. omega arith),
-        putCosts-other (pairAt x y + 2) (λ e. omega arith) (λ e. omega arith) (λ e. omega arith) (λ e. omega arith),
-        putCosts-other (pairAt x y + 3) (λ e. omega arith) (λ e. omega arith) (λ e. omega arith) (λ e. omega arith),
-      )
-
-  module _ (long : length t ≡ tableLength) (few : v < positions) where
-    pub putCosts-cm : column cmStart (putCosts t v c) v ≡ c .cm
-    unfolding column putCosts
-    putCosts-cm =
-        getD-set-other (set (set (set t (cmStart + v) (c .cm)) (cdStart + v) (c .cd)) (rdStart + v) (c .rd)) (rmStart + v) (cmStart + v) (c .rm) 0 (λ e. omega arith)
-        ∙ getD-set-other (set (set t (cmStart + v) (c .cm)) (cdStart + v) (c .cd)) (rdStart + v) (cmStart + v) (c .rd) 0 (λ e. omega arith)
-        ∙ getD-set-other (set t (cmStart + v) (c .cm)) (cdStart + v) (cmStart + v) (c .cd) 0 (λ e. omega arith)
-        ∙ getD-set-same t (cmStart + v) (c .cm) 0 (omega arith)
-
-    pub putCosts-cd : column cdStart (putCosts t v c) v ≡ c .cd
-    unfolding column putCosts
-    putCosts-cd =
-        getD-set-other (set (set (set t (cmStart + v) (c .cm)) (cdStart + v) (c .cd)) (rdStart + v) (c .rd)) (rmStart + v) (cdStart + v) (c .rm) 0 (λ e. omega arith)
-        ∙ getD-set-other (set (set t (cmStart + v) (c .cm)) (cdStart + v) (c .cd)) (rdStart + v) (cdStart + v) (c .rd) 0 (λ e. omega arith)
-        ∙ getD-set-same (set t (cmStart + v) (c .cm)) (cdStart + v) (c .cd) 0 (omega (arith, length-set t (cmStart + v) (c .cm)))
-
-    pub putCosts-rd : column rdStart (putCosts t v c) v ≡ c .rd
-    unfolding column putCosts
-    putCosts-rd =
-        getD-set-other (set (set (set t (cmStart + v) (c .cm)) (cdStart + v) (c .cd)) (rdStart + v) (c .rd)) (rmStart + v) (rdStart + v) (c .rm) 0 (λ e. omega arith)
-        ∙ getD-set-same (set (set t (cmStart + v) (c .cm)) (cdStart + v) (c .cd)) (rdStart + v) (c .rd) 0
-        (omega (arith, length-set t (cmStart + v) (c .cm), length-set (set t (cmStart + v) (c .cm)) (cdStart + v) (c .cd)))
-
-    pub putCosts-rm : column rmStart (putCosts t v c) v ≡ c .rm
-    unfolding column putCosts
-    putCosts-rm =
-        getD-set-same (set (set (set t (cmStart + v) (c .cm)) (cdStart + v) (c .cd)) (rdStart + v) (c .rd)) (rmStart + v) (c .rm) 0
-        (omega (
-          arith,
-          length-set t (cmStart + v) (c .cm),
-          length-set (set t (cmStart + v) (c .cm)) (cdStart + v) (c .cd),
-          length-set (set (set t (cmStart + v) (c .cm)) (cdStart + v) (c .cd)) (rdStart + v) (c .rd),
-        ))
-
-    -- the costs of every other position stay
-    module _ (w : ℕ) (h : w < positions) (n : w ≢ v) where
-      pub putCosts-cm-apart : column cmStart (putCosts t v c) w ≡ column cmStart t w
-      unfolding column
-      putCosts-cm-apart = putCosts-other (cmStart + w) (λ e. omega arith) (λ e. omega arith) (λ e. omega arith) (λ e. omega arith)
-
-      pub putCosts-cd-apart : column cdStart (putCosts t v c) w ≡ column cdStart t w
-      unfolding column
-      putCosts-cd-apart = putCosts-other (cdStart + w) (λ e. omega arith) (λ e. omega arith) (λ e. omega arith) (λ e. omega arith)
-
-      pub putCosts-rd-apart : column rdStart (putCosts t v c) w ≡ column rdStart t w
-      unfolding column
-      putCosts-rd-apart = putCosts-other (rdStart + w) (λ e. omega arith) (λ e. omega arith) (λ e. omega arith) (λ e. omega arith)
-
-      pub putCosts-rm-apart : column rmStart (putCosts t v c) w ≡ column rmStart t w
-      unfolding column
-      putCosts-rm-apart = putCosts-other (rmStart + w) (λ e. omega arith) (λ e. omega arith) (λ e. omega arith) (λ e. omega arith)
+  column-entry u v h = rw (apart (pairAt u v) (omega arith), apart (pairAt u v + 1) (omega arith), apart (pairAt u v + 2) (omega arith), apart (pairAt u v + 3) (omega arith))
+    where
+      apart : (j : ℕ) → pairsStart ≤ j → getD (set t i x) j 0 ≡ getD t j 0
+      apart j l = getD-set-other t i j x 0 (λ e. omega arith)
 
 -- a column as a part of the table
 pub column-part : (start : ℕ) (t : List ℕ) (w : ℕ) → w < positions → getD (take positions (drop start t)) w 0 ≡ column start t w
 unfolding column
 column-part start t w h = getD-take positions (drop start t) w 0 h ∙ getD-drop start t w 0
 
-pub length-column : (start : ℕ) (t : List ℕ) → length t ≡ tableLength → start + positions ≤ tableLength → length (take positions (drop start t)) ≡ positions
-length-column start t long h = length-take-le positions (drop start t) (omega (arith, length-drop start t))
+pub length-column : (start : ℕ) (t : List ℕ) → start + positions ≤ length t → length (take positions (drop start t)) ≡ positions
+length-column start t h = length-take-le positions (drop start t) (omega (arith, length-drop start t))
 
 -- a table that is bounded up to n is bounded up to any earlier position
 pub bounded-less : (n v : ℕ) (t : List ℕ) → v ≤ n → Bounded n t → Bounded v t
 bounded-less n v t h b =
     record {
-      long = b .long;
+      long = le-trans (needed-less v n h) (b .long);
       few = omega (arith, b .few);
       factored = λ x y k l e. b .factored x y k (omega arith) e;
       cm = λ x k. b .cm x (omega arith);
@@ -215,25 +151,16 @@ pub arrival-before : (t : List ℕ) (r : Recoveries) (u q v : ℕ) → entryOf t
 unfolding arrivalAt
 arrival-before t r u q v e = rw (eq-eqb (entryOf t u v .both) 0 e)
 
--- an entry of pairs or costs stands before the column of firsts
-pair-before : (x y k : ℕ) → IsPair x y → k < pairEntries → pairAt x y + k < firstStart
-pair-before x y k p h = omega (arith, pair-within x y p)
-
 module _ (t : List ℕ) (e : ℕ) (t' : List ℕ) (put : FirstsPut t e t') where
-  pub firsts-entry : (x y : ℕ) → IsPair x y → entryOf t' x y ≡ entryOf t x y
+  pub firsts-entry : (x y : ℕ) → entryOf t' x y ≡ entryOf t x y
   unfolding entryOf
-  firsts-entry x y p =
-      let first : getD t' (pairAt x y) 0 ≡ getD t (pairAt x y) 0 = put .others (pairAt x y) (omega (arith, pair-before x y 0 p (omega arith))) in
-      rw (
-        first,
-        put .others (pairAt x y + 1) (pair-before x y 1 p (omega arith)),
-        put .others (pairAt x y + 2) (pair-before x y 2 p (omega arith)),
-        put .others (pairAt x y + 3) (pair-before x y 3 p (omega arith)),
-      )
+  firsts-entry x y =
+      let first = pairAt x y in
+      rw (put .others first (inr (omega arith)), put .others (first + 1) (inr (omega arith)), put .others (first + 2) (inr (omega arith)), put .others (first + 3) (inr (omega arith)))
 
   pub firsts-column : (start : ℕ) → start + positions ≤ firstStart → (v : ℕ) → v < positions → column start t' v ≡ column start t v
   unfolding column
-  firsts-column start h v l = put .others (start + v) (omega arith)
+  firsts-column start h v l = put .others (start + v) (inl (omega arith))
 
   -- the firsts of the table with its column of firsts
   pub firsts-put : (n : ℕ) → n < e → n < positions → Firsts n t'
@@ -242,28 +169,32 @@ module _ (t : List ℕ) (e : ℕ) (t' : List ℕ) (put : FirstsPut t e t') where
         within = λ v l. put .firsts v (omega arith) .within;
         none-before = λ u v k l.
             let f = put .firsts v (omega arith) in
-            rw (firsts-entry u v (record { order = omega (arith, f .within); few = omega arith })) (f .none-before u k);
+            rw (firsts-entry u v) (f .none-before u k);
       }
 
 pub firsts-none : (t : List ℕ) → FirstsPut t 0 t
 firsts-none t = record { long = refl; others = λ i h. refl; firsts = λ v h. absurd (omega arith) }
 
-pub firsts-more : (t : List ℕ) (v : ℕ) (t' : List ℕ) (r : ℕ) → FirstsPut t v t' → length t ≡ tableLength → v < positions → FirstIs t' v r
+pub firsts-more : (t : List ℕ) (v : ℕ) (t' : List ℕ) (r : ℕ) → FirstsPut t v t' → pairsStart ≤ length t → v < positions → FirstIs t' v r
     → FirstsPut t (v + 1) (set t' (firstStart + v) r)
 unfolding column
 firsts-more t v t' r put long few is =
     record {
       long = length-set t' (firstStart + v) r ∙ put .long;
-      others = λ i h. getD-set-other t' (firstStart + v) i r 0 (λ e. omega arith) ∙ put .others i h;
+      others = λ i h. getD-set-other t' (firstStart + v) i r 0 (λ e. away i h e) ∙ put .others i h;
       firsts = λ w h. at w h (ℕ-discrete w v);
     }
   where
+    away : (i : ℕ) → (i < firstStart) ⊎ (pairsStart ≤ i) → i ≡ firstStart + v → ⊥
+    away i (inl l) e = omega arith
+    away i (inr l) e = omega arith
+
     at : (w : ℕ) → w < v + 1 → Dec (w ≡ v) → FirstIs t w (column firstStart (set t' (firstStart + v) r) w)
     at w h (yes e) =
         rw (e, getD-set-same t' (firstStart + v) r 0 (omega (arith, put .long)))
         (record {
           within = is .within;
-          none-before = λ u l. rw (← (firsts-entry t v t' put u v (record { order = omega (arith, is .within); few = few }))) (is .none-before u l);
+          none-before = λ u l. rw (← (firsts-entry t v t' put u v)) (is .none-before u l);
         })
     at w h (no e) = rw (getD-set-other t' (firstStart + v) (firstStart + w) r 0 (λ z. e (omega arith))) (put .firsts w (omega arith))
 

@@ -44,7 +44,7 @@ pub record DiskRange (t b : List ℕ) (n v d : ℕ) (times : List ℕ) : Type 0 
 pub copy-recoveries : (t b : List ℕ) (n d v m : ℕ) {times : List ℕ} → Bounded v t → CopyRange t b n d v m times → ReadyForRecoveries t d m (getD times m 0)
 copy-recoveries t b n d v m bounded range =
     record {
-      long = bounded .long;
+      long = omega (arith, bounded .long);
       d-few = omega (arith, range .from, range .below, bounded .few);
       m-few = omega (arith, range .below, bounded .few);
       rd = bounded .rd d (omega (arith, range .from, range .below));
@@ -82,7 +82,7 @@ module _ (t b : List ℕ) (n : ℕ) (time backs : List ℕ) (ready : ReadyToWalk
 
     room-before : HasRoom t b n d (backM (chainIn t) none d v)
     room-before =
-        omega (arith, room, memory-after (chainIn t) (apartIn t) (chainIn-splits t) none n (boundsIn b) (ready .bounding .below) d v h l in-memory)
+        omega (arith, room, memory-after (chainIn t) (apartIn t) (chainIn-splits t) none n (boundsIn n b) (ready .bounding .below) d v h l in-memory)
 
     -- the copy before v lies from d on and before v, is reached, and leaves room
     pub copy-range : CopyRange t b n d v (getD copies v 0) times
@@ -128,7 +128,7 @@ module _ (t b : List ℕ) (n : ℕ) (time backs : List ℕ) (ready : ReadyToWalk
     plan-before =
         record {
           place = inr (place-before (on .place));
-          room = omega (arith, on .room, disk-after (chainIn t) (apartIn t) (chainIn-splits t) none n (boundsIn b) (ready .bounding .below) v h l on-disk);
+          room = omega (arith, on .room, disk-after (chainIn t) (apartIn t) (chainIn-splits t) none n (boundsIn n b) (ready .bounding .below) v h l on-disk);
         }
 
     pub disk-range : DiskRange t b n v (getD backs v 0) time
@@ -139,7 +139,7 @@ module _ (t b : List ℕ) (n : ℕ) (time backs : List ℕ) (ready : ReadyToWalk
           below = backD-lt (chainIn t) none v h on-disk;
           time = ready .found .times (ready .in-time) (backD (chainIn t) none v) (omega (arith, backD-lt (chainIn t) none v h on-disk)) plan-before;
           on-plan = plan-before;
-          room = omega (arith, on .room, last-after (chainIn t) (apartIn t) (chainIn-splits t) none n (boundsIn b) (ready .bounding .below) v h l on-disk);
+          room = omega (arith, on .room, last-after (chainIn t) (apartIn t) (chainIn-splits t) none n (boundsIn n b) (ready .bounding .below) v h l on-disk);
         })
 
   -- the walk starts at n

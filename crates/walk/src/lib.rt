@@ -39,7 +39,7 @@ fn at_disk(t: &[u32], b: &[u64], time: &[u64], backs: &[usize], n: usize, v: usi
     let left = time[n] + 1 - time[d];
     let mut times = [NONE; POSITIONS];
     let mut copies = [0usize; POSITIONS];
-    memory_row(&mut times, &mut copies, t, b, d, left, v);
+    memory_row(&mut times, &mut copies, t, b, n, d, left, v);
     let m = copies[v];
     let r = recoveries(t, d, m, times[m]);
     let mut checks = [NONE; POSITIONS];

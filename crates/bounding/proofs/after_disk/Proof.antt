@@ -27,7 +27,7 @@ returns-2 c =
     let if1 = c .before .before .if1 in
     record {
       range = least-after .ensures .range;
-      least = λ v h k. rw (← (since .ensures .value)) (after-candidate _ _ _ _ _ _ _ _ _ (pre .looked) (least-after .ensures) v h k);
+      least = λ v h k. rw (← (since .ensures .value _)) (after-candidate _ _ _ _ _ _ _ _ _ (pre .looked) (least-after .ensures) v h k);
       end = λ e. absurd (if1 .left e);
     }
 

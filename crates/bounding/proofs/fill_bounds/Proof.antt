@@ -16,7 +16,8 @@ same-length c = search needs
 returns : tie.Need-returns
 returns c =
     let fill-afters = c .before .before .fill-afters in
-    bounds-filled _ _ _ (fill-afters .ensures)
+    let pre = c .before .before .before .before .before .before .before .before .before .before .pre in
+    bounds-filled _ _ _ (pre .bounded .few) (fill-afters .ensures)
 
 pub fill-bounds-spec : {M : Type 1} → statement M
 fill-bounds-spec =

@@ -25,20 +25,20 @@ mul-disk-2 c =
     let base = bases-cap (args .n) (args .m + 1) (args .t .now) (args .b .now) (args .m) (pre .bounded) (pre .filled .bases) (omega (arith, pre .order)) (omega arith) in
     record { fits = omega (arith, base) }
 
-memory-recovery-requires : tie.Need-memory-recovery-requires
-memory-recovery-requires c κs = search needs
+column-at-requires : tie.Need-column-at-requires
+column-at-requires c κs = search needs
 
 verification-row-requires : tie.Need-verification-row-requires
 unfolding boundsIn
 verification-row-requires c κs =
     let pre = c .before .before .before .before .before .before .pre in
     let args = c .before .before .before .before .before .before .args in
-    let memory-recovery = c .before .memory-recovery in
+    let column-at = c .before .column-at in
     let base = bases-cap (args .n) (args .m + 1) (args .t .now) (args .b .now) (args .m) (pre .bounded) (pre .filled .bases) (omega (arith, pre .order)) (omega arith) in
     record {
       long = pre .row-long;
       bounded = pre .bounded;
-      recoveries = record { disk = omega (arith, base); memory = rw (memory-recovery .ensures) (pre .bounded .rm _ (omega (arith, pre .order))) };
+      recoveries = record { disk = omega (arith, base); memory = rw (column-at .ensures) (pre .bounded .rm _ (omega (arith, pre .order))) };
       start = omega (arith, pre .order);
     }
 
@@ -56,11 +56,11 @@ unfolding boundsIn
 returns c =
     let pre = c .before .before .before .before .before .before .before .before .before .before .before .before .before .before .pre in
     let args = c .before .before .before .before .before .before .before .before .before .before .before .before .before .before .args in
-    let memory-recovery = c .before .before .before .before .before .before .before .before .before .memory-recovery in
+    let column-at = c .before .before .before .before .before .before .before .before .before .column-at in
     let verification-row = c .before .before .before .before .before .before .before .verification-row in
     let put-parts = c .before .before .put-parts in
     let filled =
-    filled-part (args .t .now) (args .m) (boundsIn (args .b .now) .base (args .m)) _ (rw (memory-recovery .ensures)) (args .n) (args .b .now) _ _ refl
+    filled-part (args .t .now) (args .m) (boundsIn (args .n) (args .b .now) .base (args .m)) _ (rw (column-at .ensures)) (args .n) (args .b .now) _ _ refl
     (verification-row .ensures) (put-parts .ensures) (pre .bounded .few) (pre .order) (pre .filled) in
     record { filled = filled; row-long = verification-row .ensures .long }
 
@@ -72,7 +72,7 @@ fill-part-spec =
     mul-disk
     slice-read-disk
     mul-disk-2
-    memory-recovery-requires
+    column-at-requires
     verification-row-requires
     put-parts-requires
     same-length

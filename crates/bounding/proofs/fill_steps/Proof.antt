@@ -1,7 +1,8 @@
 -- `bounding::fill_steps` meets its contract. The loop's invariant: the parts from the copies before m are filled, and the times, risks and bases up to m.
 -- The measure is what is left of the positions. Assumes nothing.
-use Prim.Native.Nat.{_+_, _-_, _≤_}
-use mathlib.Core.Path.{_≡_, sym, _∙_}
+use mathlib.Core.List.{List}
+use Prim.Native.Nat.{_+_, _-_, _≤_, ℕ}
+use mathlib.Core.Path.{_≡_, _∙_, refl}
 use native.Mathlib.Omega.{arith}
 use lib.ListN.{length, length-set, length-replicate}
 use Rattle.units.specs.Limits.{positions}
@@ -13,8 +14,14 @@ use borrow.Author.Needs.{needs}
 use Rattle.bounding.proofs.fill_steps.Statement.{statement}
 use Rattle.bounding.proofs.fill_steps.Tie as tie
 
+record Steps-to (b₀ t : List ℕ) (n : ℕ) (b q : List ℕ) (m : ℕ) : Type 0 where
+  pub within : m ≤ n
+  pub filled : Filled m (m + 1) n t b
+  pub row-long : length q ≡ positions
+  pub same-long : length b ≡ length b₀
+
 abbrev Inv-loop : tie.InvT-loop
-Inv-loop b₀ t n q₀ m₀ b q m = (m ≤ n) × Filled m (m + 1) n t b × (length q ≡ positions)
+Inv-loop b₀ t n q₀ m₀ b q m = Steps-to b₀ t n b q m
 
 abbrev μ-loop : tie.MeasureT-loop
 μ-loop b₀ t n q₀ m₀ b q m = n - m
@@ -38,7 +45,12 @@ loop-holds : tie.Need-loop-holds Inv-loop μ-loop
 loop-holds c =
     let pre = c .before .before .pre in
     let args = c .before .before .args in
-    (omega arith, filled-first (args .n) (args .t .now) (args .b .now) (pre .long), length-replicate positions none)
+    record {
+      within = omega arith;
+      filled = filled-first (args .n) (args .t .now) (args .b .now) (pre .long);
+      row-long = length-replicate positions none;
+      same-long = refl;
+    }
 
 slice-aggregate-fill-part : tie.Need-slice-aggregate-fill-part Inv-loop μ-loop
 slice-aggregate-fill-part c = search needs
@@ -47,7 +59,7 @@ fill-part-requires : tie.Need-fill-part-requires Inv-loop μ-loop
 fill-part-requires c κs =
     let pre = c .before .before .before .before .before .before .pre in
     let loop = c .before .before .before .loop in
-    record { bounded = pre .bounded; filled = loop .inv .1; row-long = loop .inv .2; order = omega arith }
+    record { bounded = pre .bounded; filled = loop .inv .filled; row-long = loop .inv .row-long; order = omega arith }
 
 add-m : tie.Need-add-m Inv-loop μ-loop
 add-m c =
@@ -61,6 +73,7 @@ put-step-requires c κs =
     let filled = c .before .before .before .before .fill-part .ensures .filled in
     record {
       bounded = bounded-less _ _ _ (omega arith) (pre .bounded);
+      within = omega arith;
       long = filled .parts .long;
       parts = λ u h. filled .parts .range u (loop .m + 1) h h (omega arith);
       times = λ u h. filled .steps .time-range u h;
@@ -72,23 +85,31 @@ loop-less c = omega arith
 
 loop-again : tie.Need-loop-again Inv-loop μ-loop
 loop-again c =
+    let loop = c .before .before .before .before .before .before .before .before .before .before .before .loop in
+    let b = c .before .before .before .before .before .before .b in
+    let b2 = c .before .b2 in
     let pre = c .before .before .before .before .before .before .before .before .before .before .before .before .before .before .pre in
     let fill-part = c .before .before .before .before .before .before .before .fill-part in
     let put-step = c .before .before .put-step in
-    (omega arith, filled-step _ _ _ _ _ (pre .bounded .few) (omega (arith, pre .bounded .few)) (put-step .ensures) (fill-part .ensures .filled), fill-part .ensures .row-long)
+    record {
+      within = omega arith;
+      filled = filled-step _ _ _ _ _ (pre .bounded .few) (omega (arith, pre .bounded .few)) (put-step .ensures) (fill-part .ensures .filled);
+      row-long = fill-part .ensures .row-long;
+      same-long = b2 .given ∙ b .given ∙ loop .inv .same-long;
+    }
 
 same-length : tie.Need-same-length Inv-loop μ-loop
 same-length c =
     let loop = c .before .loop in
     let pre = c .before .before .before .before .pre in
-    loop .inv .1 .parts .long ∙ sym (pre .long)
+    loop .inv .same-long ∙ simp length-set refl
 
 returns : tie.Need-returns Inv-loop μ-loop
 returns c =
     let loop = c .before .loop in
     let args = c .before .before .before .before .args in
-    let e : loop .m ≡ args .n = omega arith in
-    record { filled = rw e at (loop .inv .1); afters = λ d u h k l. absurd (omega arith); end = λ h. absurd (omega arith) }
+    let e : loop .m ≡ args .n = omega (arith, loop .inv .within) in
+    record { filled = rw e at (loop .inv .filled); afters = λ d u h k l. absurd (omega arith); end = λ h. absurd (omega arith) }
 
 pub fill-steps-spec : {M : Type 1} → statement M
 fill-steps-spec =

@@ -1,11 +1,12 @@
 -- `bounding::least_risk` meets its contract. The loop's invariant: `best` is at most each candidate before u. The measure is what is left of the positions. Assumes nothing.
+use lib.ListN.{getD}
 use Prim.Native.Nat.{ℕ, _+_, _-_, _≤_}
 use mathlib.Core.List.{List}
 use mathlib.Core.Path.{_≡_}
 use mathlib.Core.Bool.{true}
 use native.Mathlib.Omega.{arith}
 use Rattle.units.specs.Limits.{none}
-use Rattle.bounds.specs.Working.Bounds.{boundsIn, apartIn}
+use Rattle.bounds.specs.Working.Bounds.{boundsIn, apartIn, riskStart}
 use Rattle.table.specs.Working.Table.{chainIn}
 use Rattle.bounding.proofs.Bounds.{AtMost, at-most-next}
 use borrow.Author.Needs.{needs}
@@ -14,16 +15,21 @@ use Rattle.bounding.proofs.least_risk.Tie as tie
 
 -- the risk of v by u
 abbrev candidate : (b t : List ℕ) → (v u : ℕ) → ℕ
-candidate b t v u = boundsIn b .risk u + apartIn t .stopped u v
+candidate b t v u = getD b (riskStart + u) 0 + apartIn t .stopped u v
+
+record Least (b t : List ℕ) (v best u : ℕ) : Type 0 where
+  pub within : u ≤ v
+  pub range : best ≤ none
+  pub least : AtMost (λ w. chainIn t .allowed w v ≡ true) (candidate b t v) u best
 
 abbrev Inv-loop : tie.InvT-loop
-Inv-loop b t v best₀ u₀ best u = (u ≤ v) × (best ≤ none) × AtMost (λ w. chainIn t .allowed w v ≡ true) (candidate b t v) u best
+Inv-loop b t v best₀ u₀ best u = Least b t v best u
 
 abbrev μ-loop : tie.MeasureT-loop
 μ-loop b t v best₀ u₀ best u = v - u
 
 loop-holds : tie.Need-loop-holds Inv-loop μ-loop
-loop-holds c = (omega arith, omega arith, λ w p l. absurd (omega arith))
+loop-holds c = record { within = omega arith; range = omega arith; least = λ w p l. absurd (omega arith) }
 
 add-lesser : tie.Need-add-lesser Inv-loop μ-loop
 add-lesser c =
@@ -70,19 +76,22 @@ loop-again c =
     let lesser = c .lesser in
     let args = c .before .before .before .before .before .before .before .args in
     let loop = c .before .before .before .before .loop in
-    let stopped = c .before .stopped in (
-      omega arith,
-      omega (arith, lesser .ensures),
-      rw (lesser .ensures)
-          (at-most-next (λ w. chainIn (args .t .now) .allowed w (args .v) ≡ true) (candidate (args .b .now) (args .t .now) (args .v)) _ _ (loop .inv .2) _
-          (λ a. rw (stopped .ensures .value a))),
-    )
+    let stopped = c .before .stopped in
+    record {
+      within = omega arith;
+      range = omega (arith, lesser .ensures, loop .inv .range);
+      least =
+          rw (lesser .ensures)
+          (at-most-next (λ w. chainIn (args .t .now) .allowed w (args .v) ≡ true) (candidate (args .b .now) (args .t .now) (args .v)) _ _ (loop .inv .least) _
+          (λ a. rw (stopped .ensures .value a)));
+    }
 
 returns : tie.Need-returns Inv-loop μ-loop
+unfolding boundsIn
 returns c =
     let loop = c .before .loop in
     let args = c .before .before .before .before .args in
-    let e : loop .u ≡ args .v = omega arith in record { range = loop .inv .1; least = λ w l a. loop .inv .2 w a (omega arith) }
+    let e : loop .u ≡ args .v = omega (arith, loop .inv .within) in record { range = loop .inv .range; least = λ n w l a. loop .inv .least w a (omega arith) }
 
 pub least-risk-spec : {M : Type 1} → statement M
 least-risk-spec =

@@ -12,22 +12,27 @@ use Rattle.bounding.proofs.least_time.Statement.{statement}
 use Rattle.bounding.proofs.least_time.Tie as tie
 
 -- the time of v by u
-abbrev candidate : (b t : List ℕ) → (v u : ℕ) → ℕ
-candidate b t v u = boundsIn b .time u + boundsIn b .part u v + column cmStart t v
+abbrev candidate : (n : ℕ) → (b t : List ℕ) → (v u : ℕ) → ℕ
+candidate n b t v u = boundsIn n b .time u + boundsIn n b .part u v + column cmStart t v
+
+record Least (n : ℕ) (b t : List ℕ) (v best u : ℕ) : Type 0 where
+  pub within : u ≤ v
+  pub range : best ≤ none
+  pub least : AtMost (λ w. 0 ≤ w) (candidate n b t v) u best
 
 abbrev Inv-loop : tie.InvT-loop
-Inv-loop b t v copy best₀ u₀ best u = (u ≤ v) × (best ≤ none) × AtMost (λ w. 0 ≤ w) (candidate b t v) u best
+Inv-loop b n t v copy best₀ u₀ best u = Least n b t v best u
 
 abbrev μ-loop : tie.MeasureT-loop
-μ-loop b t v copy best₀ u₀ best u = v - u
+μ-loop b n t v copy best₀ u₀ best u = v - u
 
-memory-copy-requires : tie.Need-memory-copy-requires Inv-loop μ-loop
-memory-copy-requires c κs =
+column-at-requires : tie.Need-column-at-requires Inv-loop μ-loop
+column-at-requires c κs =
     let pre = c .before .before .pre in
-    record { long = pre .bounded .long; few = pre .bounded .few }
+    record { long = omega (arith, pre .bounded .long); few = pre .bounded .few }
 
 loop-holds : tie.Need-loop-holds Inv-loop μ-loop
-loop-holds c = (omega arith, omega arith, λ w p l. absurd (omega arith))
+loop-holds c = record { within = omega arith; range = omega arith; least = λ w p l. absurd (omega arith) }
 
 add-lesser : tie.Need-add-lesser Inv-loop μ-loop
 add-lesser c =
@@ -47,7 +52,7 @@ shared-slice-read-lesser c =
 part-requires : tie.Need-part-requires Inv-loop μ-loop
 part-requires c κs =
     let pre = c .before .before .before .before .before .before .pre in
-    record { long = pre .long; near = omega (arith, pre .bounded .few); far = pre .bounded .few }
+    record { long = pre .long; near = omega (arith, pre .within); far = pre .within }
 
 add-lesser-2 : tie.Need-add-lesser-2 Inv-loop μ-loop
 unfolding boundsIn
@@ -61,11 +66,11 @@ add-lesser-3 : tie.Need-add-lesser-3 Inv-loop μ-loop
 unfolding boundsIn
 add-lesser-3 c =
     let part = c .part in
-    let memory-copy = c .before .before .before .before .memory-copy in
+    let column-at = c .before .before .before .before .column-at in
     let pre = c .before .before .before .before .before .before .before .pre in
     let loop = c .before .before .before .loop in
     let args = c .before .before .before .before .before .before .before .args in
-    rw (part .ensures, memory-copy .ensures) (omega (arith, pre .parts (loop .u) (omega arith), pre .times (loop .u) (omega arith), pre .bounded .cm (args .v) (omega arith)))
+    rw (part .ensures, column-at .ensures) (omega (arith, pre .parts (loop .u) (omega arith), pre .times (loop .u) (omega arith), pre .bounded .cm (args .v) (omega arith)))
 
 lesser-requires : tie.Need-lesser-requires Inv-loop μ-loop
 lesser-requires c κs = search needs
@@ -85,18 +90,20 @@ loop-again c =
     let args = c .before .before .before .before .before .before .before .before .args in
     let loop = c .before .before .before .before .loop in
     let part = c .before .part in
-    let memory-copy = c .before .before .before .before .before .memory-copy in (
-      omega arith,
-      omega (arith, lesser .ensures),
-      rw (lesser .ensures)
-          (at-most-next (λ w. 0 ≤ w) (candidate (args .b .now) (args .t .now) (args .v)) _ _ (loop .inv .2) _ (λ _. rw (part .ensures, memory-copy .ensures))),
-    )
+    let column-at = c .before .before .before .before .before .column-at in
+    record {
+      within = omega arith;
+      range = omega (arith, lesser .ensures, loop .inv .range);
+      least =
+          rw (lesser .ensures)
+          (at-most-next (λ w. 0 ≤ w) (candidate (args .n) (args .b .now) (args .t .now) (args .v)) _ _ (loop .inv .least) _ (λ _. rw (part .ensures, column-at .ensures)));
+    }
 
 returns : tie.Need-returns Inv-loop μ-loop
 returns c =
     let loop = c .before .loop in
     let args = c .before .before .before .before .before .args in
-    let e : loop .u ≡ args .v = omega arith in record { range = loop .inv .1; least = λ w l. loop .inv .2 w (omega arith) (omega arith) }
+    let e : loop .u ≡ args .v = omega (arith, loop .inv .within) in record { range = loop .inv .range; least = λ w l. loop .inv .least w (omega arith) (omega arith) }
 
 pub least-time-spec : {M : Type 1} → statement M
 least-time-spec =
@@ -104,7 +111,7 @@ least-time-spec =
     (tie.spec
     Inv-loop
     μ-loop
-    memory-copy-requires
+    column-at-requires
     loop-holds
     add-lesser
     mul-lesser

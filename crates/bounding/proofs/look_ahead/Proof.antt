@@ -1,6 +1,7 @@
 -- `bounding::look_ahead` meets its contract. The loop's invariant: the entries before v are done, and from `end` on none is a time. The measure is what is
 -- left of the positions. Assumes nothing.
-use Prim.Native.Nat.{_+_, _-_, _≤_, _<_}
+use mathlib.Core.List.{List}
+use Prim.Native.Nat.{_+_, _-_, _≤_, _<_, ℕ}
 use mathlib.Core.Path.{_≡_, sym, _∙_}
 use native.Mathlib.Omega.{arith}
 use lib.ListN.{length-set}
@@ -11,8 +12,16 @@ use borrow.Author.Needs.{needs}
 use Rattle.bounding.proofs.look_ahead.Statement.{statement}
 use Rattle.bounding.proofs.look_ahead.Tie as tie
 
+record Looked-to (b t : List ℕ) (u n : ℕ) (ahead : List ℕ) (end v : ℕ) : Type 0 where
+  pub after-u : u < v
+  pub within : v ≤ n + 1
+  pub entries : Ahead n b t u v ahead
+  pub end-after-u : u < end
+  pub end-within : end ≤ v
+  pub past : Past ahead end v
+
 abbrev Inv-loop : tie.InvT-loop
-Inv-loop ahead₀ b t u n end₀ v₀ ahead end v = (u < v) × (v ≤ n + 1) × Ahead b t u v ahead × (u < end) × (end ≤ v) × Past ahead end v
+Inv-loop ahead₀ b t u n end₀ v₀ ahead end v = Looked-to b t u n ahead end v
 
 abbrev μ-loop : tie.MeasureT-loop
 μ-loop ahead₀ b t u n end₀ v₀ ahead end v = (n + 1) - v
@@ -30,25 +39,32 @@ add-v c =
 loop-holds : tie.Need-loop-holds Inv-loop μ-loop
 loop-holds c =
     let pre = c .before .before .before .pre in
-    (omega arith, omega (arith, pre .start), ahead-none _ _ _ _ (pre .ahead-long), omega arith, omega arith, λ v a l. absurd (omega arith))
+    record {
+      after-u = omega arith;
+      within = omega (arith, pre .start);
+      entries = ahead-none _ _ _ _ _ (pre .ahead-long);
+      end-after-u = omega arith;
+      end-within = omega arith;
+      past = λ v a l. absurd (omega arith);
+    }
 
 part-requires : tie.Need-part-requires Inv-loop μ-loop
 part-requires c κs =
     let pre = c .before .before .before .before .before .pre in
-    record { long = pre .long; near = omega (arith, pre .start, pre .bounded .few); far = omega (arith, pre .bounded .few) }
+    record { long = pre .long; near = pre .start; far = omega arith }
 
-memory-copy-requires : tie.Need-memory-copy-requires Inv-loop μ-loop
-memory-copy-requires c κs =
+column-at-requires : tie.Need-column-at-requires Inv-loop μ-loop
+column-at-requires c κs =
     let pre = c .before .before .before .before .before .before .pre in
-    record { long = pre .bounded .long; few = omega (arith, pre .bounded .few) }
+    record { long = omega (arith, pre .bounded .long); few = omega (arith, pre .bounded .few) }
 
 add-time : tie.Need-add-time Inv-loop μ-loop
 add-time c =
     let part = c .before .part in
-    let memory-copy = c .memory-copy in
+    let column-at = c .column-at in
     let pre = c .before .before .before .before .before .before .before .pre in
     let loop = c .before .before .before .loop in
-    rw (part .ensures, memory-copy .ensures) (omega (arith, pre .parts (loop .v) (loop .inv .0) (omega arith), pre .bounded .cm (loop .v) (omega arith)))
+    rw (part .ensures, column-at .ensures) (omega (arith, pre .parts (loop .v) (loop .inv .after-u) (omega arith), pre .bounded .cm (loop .v) (omega arith)))
 
 mul-ahead : tie.Need-mul-ahead Inv-loop μ-loop
 mul-ahead c =
@@ -64,12 +80,12 @@ slice-write-ahead : tie.Need-slice-write-ahead Inv-loop μ-loop
 slice-write-ahead c =
     let pre = c .before .before .before .before .before .before .before .pre in
     let loop = c .before .before .before .loop in
-    omega (arith, pre .bounded .few, loop .inv .2 .long)
+    omega (arith, pre .bounded .few, loop .inv .entries .long)
 
 slope-requires : tie.Need-slope-requires Inv-loop μ-loop
 slope-requires c κs =
     let pre = c .before .before .before .before .before .before .before .pre in
-    record { long = pre .long; near = omega (arith, pre .start, pre .bounded .few); far = omega (arith, pre .bounded .few) }
+    record { long = omega (arith, pre .long); near = omega (arith, pre .start, pre .bounded .few); far = omega (arith, pre .bounded .few) }
 
 mul-ahead-3 : tie.Need-mul-ahead-3 Inv-loop μ-loop
 mul-ahead-3 c =
@@ -90,7 +106,7 @@ slice-write-ahead-2 : tie.Need-slice-write-ahead-2 Inv-loop μ-loop
 slice-write-ahead-2 c =
     let pre = c .before .before .before .before .before .before .before .before .pre in
     let loop = c .before .before .before .before .loop in
-    simp length-set (omega (arith, pre .bounded .few, loop .inv .2 .long))
+    simp length-set (omega (arith, pre .bounded .few, loop .inv .entries .long))
 
 add-v-2 : tie.Need-add-v-2 Inv-loop μ-loop
 add-v-2 c =
@@ -108,29 +124,30 @@ loop-again c =
     let loop = c .before .before .before .before .before .loop in
     let pre = c .before .before .before .before .before .before .before .before .before .pre in
     let part = c .before .before .before .part in
-    let memory-copy = c .before .before .memory-copy in
+    let column-at = c .before .before .column-at in
     let slope = c .before .slope in
-    let end-after = c .end-after in (
-      omega arith,
-      omega arith,
-      ahead-more _ _ _ _ _ _ _ (loop .inv .2) (omega (arith, pre .bounded .few)) (rw (part .ensures, memory-copy .ensures)) (slope .ensures),
-      end-from _ _ _ _ (end-after .ensures) _ (loop .inv .3) (loop .inv .0),
-      end-within _ _ _ _ (end-after .ensures) (loop .inv .4),
-      looked-past (loop .ahead) (loop .v) _ _ _ _ (loop .inv .2 .long) (omega (arith, pre .bounded .few)) (end-after .ensures) (loop .inv .5),
-    )
+    let end-after = c .end-after in
+    record {
+      after-u = omega (arith, loop .inv .after-u);
+      within = omega arith;
+      entries = ahead-more _ _ _ _ _ _ _ _ (loop .inv .entries) (omega (arith, pre .bounded .few)) (rw (part .ensures, column-at .ensures)) (slope .ensures _);
+      end-after-u = end-from _ _ _ _ (end-after .ensures) _ (loop .inv .end-after-u) (loop .inv .after-u);
+      end-within = end-within _ _ _ _ (end-after .ensures) (loop .inv .end-within);
+      past = looked-past (loop .ahead) (loop .v) _ _ _ _ (loop .inv .entries .long) (omega (arith, pre .bounded .few)) (end-after .ensures) (loop .inv .past);
+    }
 
 same-length : tie.Need-same-length Inv-loop μ-loop
 same-length c =
     let loop = c .before .loop in
     let pre = c .before .before .before .before .before .pre in
-    loop .inv .2 .long ∙ sym (pre .ahead-long)
+    loop .inv .entries .long ∙ sym (pre .ahead-long)
 
 returns : tie.Need-returns Inv-loop μ-loop
 returns c =
     let loop = c .before .loop in
     let args = c .before .before .before .before .before .args in
-    let e : loop .v ≡ args .n + 1 = omega arith in
-    record { entries = rw e at (loop .inv .2); from = loop .inv .3; to = omega (arith, loop .inv .4); past = λ v a l. loop .inv .5 v a (omega arith) }
+    let e : loop .v ≡ args .n + 1 = omega (arith, loop .inv .within) in
+    record { entries = rw e at (loop .inv .entries); from = loop .inv .end-after-u; to = omega (arith, loop .inv .end-within); past = λ v a l. loop .inv .past v a (omega arith) }
 
 pub look-ahead-spec : {M : Type 1} → statement M
 look-ahead-spec =
@@ -142,7 +159,7 @@ look-ahead-spec =
     add-v
     loop-holds
     part-requires
-    memory-copy-requires
+    column-at-requires
     add-time
     mul-ahead
     mul-ahead-2

@@ -1,7 +1,10 @@
 -- `bounding::put_step` meets its contract. The base is found with the time of v in its place. Assumes nothing.
+use Prim.Native.Nat.{_+_}
 use native.Mathlib.Omega.{arith}
-use lib.ListN.{length-set}
+use lib.ListN.{length-set, set}
 use Rattle.bounding.proofs.Bounds.{two-long, time-here}
+use Rattle.bounds.proofs.Bounds.{time-entry}
+use Rattle.bounds.specs.Working.Bounds.{boundsIn, timeStart, riskStart}
 use borrow.Author.Needs.{needs}
 use Rattle.bounding.proofs.put_step.Statement.{statement}
 use Rattle.bounding.proofs.put_step.Tie as tie
@@ -10,7 +13,10 @@ least-time-requires : tie.Need-least-time-requires
 least-time-requires c κs = search needs
 
 least-risk-requires : tie.Need-least-risk-requires
-least-risk-requires c κs = search needs
+unfolding boundsIn
+least-risk-requires c κs =
+    let pre = c .before .before .before .before .before .pre in
+    record { bounded = pre .bounded; long = omega (arith, pre .long); risks = pre .risks }
 
 add-b : tie.Need-add-b
 add-b c = search needs
@@ -38,9 +44,9 @@ least-base-requires c κs =
     let args = c .before .before .before .before .before .before .before .args in
     let least-time = c .before .before .before .least-time in
     let least-risk = c .before .least-risk in
-    let long = two-long (args .b .now) (args .v) (least-time .result) (least-risk .result) (pre .long) (pre .bounded .few) in
-    let time = time-here (args .b .now) (args .v) (least-time .result) (least-risk .result) (pre .long) (pre .bounded .few) in
-    record { bounded = pre .bounded; long = long; time = rw time (least-time .ensures .range) }
+    let long = two-long (args .n) (args .b .now) (args .v) (least-time .result) (least-risk .result) (pre .long) (pre .bounded .few) in
+    let time = time-here (args .n) (args .b .now) (args .v) (least-time .result) (least-risk .result) (pre .long) (pre .bounded .few) in
+    record { bounded = pre .bounded; long = omega (arith, pre .long, long); time = time-entry (args .n) (set (set (args .b .now) (timeStart + args .v) (least-time .result)) (riskStart + args .v) (least-risk .result)) (args .v) (rw time (least-time .ensures .range)) }
 
 add-b-3 : tie.Need-add-b-3
 add-b-3 c = search needs
@@ -54,7 +60,7 @@ slice-write-b-3 c =
     let args = c .before .before .before .before .before .before .before .before .args in
     let least-time = c .before .before .before .before .least-time in
     let least-risk = c .before .before .least-risk in
-    omega (arith, two-long (args .b .now) (args .v) (least-time .result) (least-risk .result) (pre .long) (pre .bounded .few), pre .bounded .few)
+    omega (arith, two-long (args .n) (args .b .now) (args .v) (least-time .result) (least-risk .result) (pre .long) (pre .bounded .few), pre .long, pre .bounded .few)
 
 same-length : tie.Need-same-length
 same-length c = search needs

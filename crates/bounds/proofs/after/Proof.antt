@@ -1,26 +1,17 @@
 -- `bounds::after` meets its contract. One entry of the square. Assumes nothing.
-use mathlib.Core.Path.{refl}
 use Rattle.bounds.specs.Working.Bounds.{boundsIn}
 use borrow.Author.Needs.{needs}
 use Rattle.bounds.proofs.after.Statement.{statement}
 use Rattle.bounds.proofs.after.Tie as tie
 
-mul-result : tie.Need-mul-result
-mul-result c = search needs
-
-add-result : tie.Need-add-result
-add-result c = search needs
-
-mul-result-2 : tie.Need-mul-result-2
-mul-result-2 c = search needs
-
-shared-slice-read-result : tie.Need-shared-slice-read-result
-shared-slice-read-result c = search needs
+square-at-requires : tie.Need-square-at-requires
+square-at-requires c κs = search needs
 
 returns : tie.Need-returns
 unfolding boundsIn
-returns c = refl
+returns c =
+    let square-at = c .square-at in
+    square-at .ensures
 
 pub after-spec : {M : Type 1} → statement M
-after-spec =
-    tie.close (tie.spec mul-result add-result mul-result-2 shared-slice-read-result returns)
+after-spec = tie.close (tie.spec square-at-requires returns)

@@ -22,7 +22,7 @@ excess-requires c κs = search needs
 
 returns : tie.Need-returns
 unfolding boundsIn
-returns c = search needs
+returns c n = search needs
 
 pub beyond-spec : {M : Type 1} → statement M
 beyond-spec =

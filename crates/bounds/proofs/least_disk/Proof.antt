@@ -8,8 +8,8 @@ use borrow.Author.Needs.{needs}
 use Rattle.bounds.proofs.least_disk.Statement.{statement}
 use Rattle.bounds.proofs.least_disk.Tie as tie
 
-disk-recovery-requires : tie.Need-disk-recovery-requires
-disk-recovery-requires c κs = search needs
+column-at-requires : tie.Need-column-at-requires
+column-at-requires c κs = search needs
 
 add-excess : tie.Need-add-excess
 add-excess c = search needs
@@ -35,24 +35,24 @@ excess-requires c κs = search needs
 add-result : tie.Need-add-result
 unfolding boundsIn
 add-result c =
-    let disk-recovery = c .before .before .before .disk-recovery in
+    let column-at = c .before .before .before .column-at in
     let excess = c .excess in
     let pre = c .before .before .before .before .before .before .pre in
-    rw (disk-recovery .ensures, excess .ensures) (omega (arith, pre .recovery, pre .time))
+    rw (column-at .ensures, excess .ensures) (omega (arith, pre .recovery, pre .time))
 
 returns : tie.Need-returns
 unfolding diskIn leastDisk apartIn boundsIn
 returns c =
-    let disk-recovery = c .before .before .before .disk-recovery in
+    let column-at = c .before .before .before .column-at in
     let excess = c .excess in
     let pre = c .before .before .before .before .before .before .pre in
-    rw (disk-recovery .ensures, excess .ensures) (record { value = refl; cap = omega (arith, pre .recovery, pre .time) })
+    rw (column-at .ensures, excess .ensures) (record { value = λ n. refl; cap = omega (arith, pre .recovery, pre .time) })
 
 pub least-disk-spec : {M : Type 1} → statement M
 least-disk-spec =
     tie.close
     (tie.spec
-    disk-recovery-requires
+    column-at-requires
     add-excess
     mul-excess
     shared-slice-read-excess

@@ -20,14 +20,14 @@ mul-rounded-up c =
     let slope = c .slope in
     let args = c .before .before .before .before .args in
     let pre = c .before .before .before .before .pre in
-    rw (slope .ensures) (record { fits = omega (arith, slope-product (boundsIn (args .b .now)) (args .u) (args .v) (args .x) (pre .disk)) })
+    rw (slope .ensures (args .n)) (record { fits = omega (arith, slope-product (boundsIn (args .n) (args .b .now)) (args .u) (args .v) (args .x) (pre .disk)) })
 
 rounded-up-requires : tie.Need-rounded-up-requires
 rounded-up-requires c κs =
     let slope = c .slope in
     let args = c .before .before .before .before .args in
     let pre = c .before .before .before .before .pre in
-    rw (slope .ensures) (omega (arith, slope-product (boundsIn (args .b .now)) (args .u) (args .v) (args .x) (pre .disk)))
+    rw (slope .ensures (args .n)) (omega (arith, slope-product (boundsIn (args .n) (args .b .now)) (args .u) (args .v) (args .x) (pre .disk)))
 
 add-result : tie.Need-add-result
 add-result c =
@@ -36,21 +36,21 @@ add-result c =
     let slope = c .before .slope in
     let pre = c .before .before .before .before .before .pre in
     let args = c .before .before .before .before .before .args in
-    rw (part .ensures, rounded-up .ensures, slope .ensures) (omega (arith, pre .part, slope-ticks (boundsIn (args .b .now)) (args .u) (args .v) (args .x) (pre .disk)))
+    rw (part .ensures, rounded-up .ensures, slope .ensures (args .n)) (omega (arith, pre .part, slope-ticks (boundsIn (args .n) (args .b .now)) (args .u) (args .v) (args .x) (pre .disk)))
 
-memory-copy-requires : tie.Need-memory-copy-requires
-memory-copy-requires c κs = search needs
+column-at-requires : tie.Need-column-at-requires
+column-at-requires c κs = search needs
 
 add-result-2 : tie.Need-add-result-2
 add-result-2 c =
     let part = c .before .before .before .part in
     let rounded-up = c .before .rounded-up in
     let slope = c .before .before .slope in
-    let memory-copy = c .memory-copy in
+    let column-at = c .column-at in
     let pre = c .before .before .before .before .before .before .pre in
     let args = c .before .before .before .before .before .before .args in
-    rw (part .ensures, rounded-up .ensures, slope .ensures, memory-copy .ensures)
-    (omega (arith, pre .part, pre .copy, slope-ticks (boundsIn (args .b .now)) (args .u) (args .v) (args .x) (pre .disk)))
+    rw (part .ensures, rounded-up .ensures, slope .ensures (args .n), column-at .ensures)
+    (omega (arith, pre .part, pre .copy, slope-ticks (boundsIn (args .n) (args .b .now)) (args .u) (args .v) (args .x) (pre .disk)))
 
 returns : tie.Need-returns
 unfolding partLow chainIn
@@ -58,11 +58,11 @@ returns c =
     let part = c .before .before .before .part in
     let rounded-up = c .before .rounded-up in
     let slope = c .before .before .slope in
-    let memory-copy = c .memory-copy in
+    let column-at = c .column-at in
     let pre = c .before .before .before .before .before .before .pre in
     let args = c .before .before .before .before .before .before .args in
-    rw (part .ensures, rounded-up .ensures, slope .ensures, memory-copy .ensures)
-    (record { value = refl; cap = omega (arith, pre .part, pre .copy, slope-ticks (boundsIn (args .b .now)) (args .u) (args .v) (args .x) (pre .disk)) })
+    rw (part .ensures, rounded-up .ensures, slope .ensures (args .n), column-at .ensures)
+    (record { value = refl; cap = omega (arith, pre .part, pre .copy, slope-ticks (boundsIn (args .n) (args .b .now)) (args .u) (args .v) (args .x) (pre .disk)) })
 
 pub part-low-spec : {M : Type 1} → statement M
 part-low-spec =
@@ -73,6 +73,6 @@ part-low-spec =
     mul-rounded-up
     rounded-up-requires
     add-result
-    memory-copy-requires
+    column-at-requires
     add-result-2
     returns)

@@ -13,14 +13,14 @@ least-disk-requires c κs =
 beyond-requires : tie.Need-beyond-requires
 beyond-requires c κs =
     let pre = c .before .before .before .pre in
-    record { long = pre .disk .long; few = pre .disk .far; base = pre .base }
+    record { long = pre .disk .fit .long; few = pre .disk .fit .far; base = pre .base }
 
 returns : tie.Need-returns
 unfolding since
 returns c =
     let least-disk = c .before .least-disk in
     let beyond = c .beyond in
-    record { value = beyond .ensures ∙ rw (least-disk .ensures .value); cap = omega (arith, beyond .ensures, least-disk .ensures .cap) }
+    record { value = λ n. beyond .ensures n ∙ rw (least-disk .ensures .value n); cap = omega (arith, beyond .ensures 0, least-disk .ensures .cap) }
 
 pub since-spec : {M : Type 1} → statement M
 since-spec = tie.close (tie.spec least-disk-requires beyond-requires returns)

@@ -32,7 +32,7 @@ lesser-requires c κs = search needs
 
 returns : tie.Need-returns
 unfolding slope boundsIn
-returns c =
+returns c n =
     let excess = c .before .excess in
     let lesser = c .lesser in
     lesser .ensures ∙ rw (excess .ensures)

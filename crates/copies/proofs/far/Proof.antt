@@ -1,5 +1,6 @@
 -- `copies::far` meets its contract. The loop's invariant: no copy after v can matter. The measure is v. Assumes nothing.
-use Prim.Native.Nat.{_≤_}
+use mathlib.Core.List.{List}
+use Prim.Native.Nat.{_≤_, ℕ}
 use mathlib.Core.Path.{refl, ap}
 use native.Mathlib.Omega.{arith}
 use Rattle.chain.specs.declared.Recoveries.{Recoveries}
@@ -9,11 +10,16 @@ use Rattle.copies.proofs.far.Statement.{statement}
 use Rattle.copies.proofs.far.Tie as tie
 use borrow.Author.Needs.{needs}
 
+record Passed-to (n : ℕ) (time t b : List ℕ) (d m left top v : ℕ) : Type 0 where
+  pub from : m ≤ v
+  pub to : v ≤ top
+  pub passed : Passed n time t b d m left top v
+
 abbrev Inv-loop : tie.InvT-loop
-Inv-loop time t b d m left top mt disk v₀ v = (m ≤ v) × (v ≤ top) × Passed time t b d m left top v
+Inv-loop time t b n d m left top mt disk v₀ v = Passed-to n time t b d m left top v
 
 abbrev μ-loop : tie.MeasureT-loop
-μ-loop time t b d m left top mt disk v₀ v = v
+μ-loop time t b n d m left top mt disk v₀ v = v
 
 mul-mt : tie.Need-mul-mt Inv-loop μ-loop
 mul-mt c =
@@ -30,8 +36,8 @@ after-requires c κs =
     let pre = c .before .before .before .before .pre in
     record {
       long = pre .bounding .long;
-      near = omega (arith, pre .disk, pre .start, pre .bounded .few);
-      far = omega (arith, pre .start, pre .bounded .few);
+      near = omega (arith, pre .disk, pre .start, pre .bounding .within);
+      far = omega (arith, pre .start, pre .bounding .within);
     }
 
 add-if1 : tie.Need-add-if1 Inv-loop μ-loop
@@ -46,13 +52,13 @@ returns c =
     let pre = c .before .before .before .before .before .before .pre in
     let after = c .before .after in
     let if1 = c .if1 in
-    far-dead _ _ _ _ _ _ _ (pre .bounding) (pre .disk) (pre .start) _ refl (pre .capped) (pre .not-low) (rw (← (after .ensures)) (if1 .taken))
+    far-dead _ _ _ _ _ _ _ _ (pre .bounding) (pre .disk) (pre .start) _ refl (pre .capped) (pre .not-low) (rw (← (after .ensures)) (if1 .taken))
 
 recoveries-requires : tie.Need-recoveries-requires Inv-loop μ-loop
 recoveries-requires c κs =
     let pre = c .before .before .before .before .before .before .pre in
     record {
-      long = pre .bounded .long;
+      long = omega (arith, pre .bounded .long);
       d-few = omega (arith, pre .disk, pre .start, pre .bounded .few);
       m-few = omega (arith, pre .start, pre .bounded .few);
       rd = pre .bounded .rd _ (omega (arith, pre .disk, pre .start));
@@ -64,23 +70,24 @@ beyond-requires : tie.Need-beyond-requires Inv-loop μ-loop
 beyond-requires c κs =
     let pre = c .before .before .before .before .before .before .before .pre in
     record {
-      long = pre .bounding .long;
+      long = omega (arith, pre .bounding .long);
       few = omega (arith, pre .start, pre .bounded .few);
-      base = base-cap _ _ _ (pre .bounding .below .base-low _ _ (omega arith) (omega (arith, pre .start))) (pre .bounded .rd _ (omega (arith, pre .start)));
+      base = base-cap _ _ _ _ (pre .bounding .below .base-low _ _ (omega arith) (omega (arith, pre .start))) (pre .bounded .rd _ (omega (arith, pre .start)));
     }
 
 loop-holds : tie.Need-loop-holds Inv-loop μ-loop
 loop-holds c =
     let pre = c .before .before .before .before .before .before .before .before .pre in
-    (pre .start, omega arith, passed-first _ _ _ _ _ _ _)
+    record { from = pre .start; to = omega arith; passed = passed-first _ _ _ _ _ _ _ _ }
 
 after-requires-2 : tie.Need-after-requires-2 Inv-loop μ-loop
 after-requires-2 c κs =
     let pre = c .before .before .before .before .before .before .before .before .before .before .pre in
+    let loop = c .before .loop in
     record {
       long = pre .bounding .long;
-      near = omega (arith, pre .disk, pre .start, pre .bounded .few);
-      far = omega (arith, pre .bounded .few);
+      near = omega (arith, pre .disk, pre .start, pre .bounding .within);
+      far = omega (arith, loop .inv .to, pre .bounding .within);
     }
 
 excess-requires : tie.Need-excess-requires Inv-loop μ-loop
@@ -95,13 +102,14 @@ part-low-requires c κs =
     record {
       fit = record {
         long = pre .bounding .long;
-        near = omega (arith, pre .start, pre .bounded .few);
-        far = omega (arith, pre .bounded .few);
+        near = omega (arith, pre .start, pre .bounding .within);
+        far = omega (arith, loop .inv .to, pre .bounding .within);
       };
-      long = pre .bounded .long;
-      disk = omega (arith, beyond .ensures, recoveries .ensures .range .disk);
-      part = pre .bounding .parts _ _ (omega arith) (loop .inv .1);
-      copy = pre .bounded .cm _ (loop .inv .1);
+      few = pre .bounding .few;
+      table-long = omega (arith, pre .bounded .long);
+      disk = omega (arith, beyond .ensures 0, recoveries .ensures .range .disk);
+      part = pre .bounding .parts _ _ (omega arith) (loop .inv .to);
+      copy = pre .bounded .cm _ (loop .inv .to);
     }
 
 add-if2 : tie.Need-add-if2 Inv-loop μ-loop
@@ -137,8 +145,8 @@ returns-2 c =
     let excess = c .before .before .before .before .excess in
     let after2 = c .before .before .before .before .before .after2 in
     let disk = ap (λ (r : Recoveries). r .disk) (recoveries .ensures .value) in
-    let is = soonest-is (args .time .now) (args .t .now) (args .b .now) (args .d) (args .m) (args .left) (args .top) _ _ disk (beyond .ensures) (loop .v) _ (part-low .ensures .value) in
-    far-some _ _ _ _ _ _ _ _ (omega arith) (loop .inv .1) (loop .inv .2) (pre .capped _ (loop .inv .1))
+    let is = soonest-is (args .n) (args .time .now) (args .t .now) (args .b .now) (args .d) (args .m) (args .left) (args .top) _ _ disk (beyond .ensures (args .n)) (loop .v) _ (part-low .ensures .value) in
+    far-some _ _ _ _ _ _ _ _ _ (omega arith) (loop .inv .to) (loop .inv .passed) (pre .capped _ (loop .inv .to))
     (omega (arith, is, if2 .taken, lesser .ensures, excess .ensures, after2 .ensures))
 
 sub-v : tie.Need-sub-v Inv-loop μ-loop
@@ -159,14 +167,18 @@ loop-again c =
     let excess = c .before .before .before .before .excess in
     let after2 = c .before .before .before .before .before .after2 in
     let disk = ap (λ (r : Recoveries). r .disk) (recoveries .ensures .value) in
-    let is = soonest-is (args .time .now) (args .t .now) (args .b .now) (args .d) (args .m) (args .left) (args .top) _ _ disk (beyond .ensures) (loop .v) _ (part-low .ensures .value) in
-    (omega arith, omega arith, passed-next _ _ _ _ _ _ _ _ (omega arith) (loop .inv .2) (omega (arith, is, if2 .left, lesser .ensures, excess .ensures, after2 .ensures)))
+    let is = soonest-is (args .n) (args .time .now) (args .t .now) (args .b .now) (args .d) (args .m) (args .left) (args .top) _ _ disk (beyond .ensures (args .n)) (loop .v) _ (part-low .ensures .value) in
+    record {
+      from = omega arith;
+      to = omega (arith, loop .inv .to);
+      passed = passed-next _ _ _ _ _ _ _ _ _ (omega arith) (loop .inv .passed) (omega (arith, is, if2 .left, lesser .ensures, excess .ensures, after2 .ensures));
+    }
 
 returns-3 : tie.Need-returns-3 Inv-loop μ-loop
 returns-3 c =
     let pre = c .before .before .before .before .before .before .before .before .before .before .pre in
     let loop = c .before .loop in
-    far-none _ _ _ _ _ _ _ _ (pre .start) (loop .inv .0) (omega arith) (loop .inv .2)
+    far-none _ _ _ _ _ _ _ _ _ (pre .start) (loop .inv .from) (omega arith) (loop .inv .passed)
 
 pub far-spec : {M : Type 1} → statement M
 far-spec =

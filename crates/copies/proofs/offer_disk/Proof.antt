@@ -19,19 +19,19 @@ memory-row-requires c κs = search needs
 slice-aggregate-offer-copies : tie.Need-slice-aggregate-offer-copies
 slice-aggregate-offer-copies c = search needs
 
-disk-copies-requires : tie.Need-disk-copies-requires
-disk-copies-requires c κs = search needs
+column-of-requires : tie.Need-column-of-requires
+column-of-requires c κs = search needs
 
 offer-copies-requires : tie.Need-offer-copies-requires
 offer-copies-requires c κs =
     let pre = c .before .before .before .before .before .before .before .before .before .before .before .before .before .pre in
     let memory-row = c .before .before .before .before .before .before .memory-row in
-    let disk-copies = c .disk-copies in
+    let column-of = c .column-of in
     let args = c .before .before .before .before .before .before .before .before .before .before .before .before .before .args in
     record {
       rows = pre .rows;
       part-long = memory-row .ensures .times-long;
-      copies-long = rw (disk-copies .ensures) (length-column cdStart (args .t .now) (pre .bounded .long) (omega arith));
+      copies-long = rw (column-of .ensures) (length-column cdStart (args .t .now) (omega (arith, pre .bounded .long)));
       start = pre .start;
       few = pre .bounded .few;
       reached = pre .reached;
@@ -47,7 +47,7 @@ same-length-2 c = search needs
 returns : tie.Need-returns
 returns c =
     let memory-row = c .before .before .before .before .before .before .before .before .before .before .before .memory-row in
-    let disk-copies = c .before .before .before .before .before .disk-copies in
+    let column-of = c .before .before .before .before .before .column-of in
     let args = c .before .before .before .before .before .before .before .before .before .before .before .before .before .before .before .before .before .before .args in
     let pre = c .before .before .before .before .before .before .before .before .before .before .before .before .before .before .before .before .before .before .pre in
     let offer-copies = c .before .before .before .before .offer-copies in
@@ -57,7 +57,7 @@ returns c =
       row = memory-row .ensures;
       offered =
           offered-agree _ _ _ _ _ _ _ _
-          (λ w a b. rw (disk-copies .ensures, column-part cdStart (args .t .now) w (omega (arith, pre .bounded .few)))) (offer-copies .ensures);
+          (λ w a b. rw (column-of .ensures, column-part cdStart (args .t .now) w (omega (arith, pre .bounded .few)))) (offer-copies .ensures);
     }
 
 pub offer-disk-spec : {M : Type 1} → statement M
@@ -68,7 +68,7 @@ offer-disk-spec =
     slice-aggregate-memory-row-2
     memory-row-requires
     slice-aggregate-offer-copies
-    disk-copies-requires
+    column-of-requires
     offer-copies-requires
     same-length
     same-length-2

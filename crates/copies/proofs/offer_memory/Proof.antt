@@ -19,7 +19,7 @@ recoveries-requires : tie.Need-recoveries-requires
 recoveries-requires c κs =
     let pre = c .before .before .before .before .pre in
     record {
-      long = pre .bounded .long;
+      long = omega (arith, pre .bounded .long);
       d-few = omega (arith, pre .disk, pre .start, pre .bounded .few);
       m-few = omega (arith, pre .start, pre .bounded .few);
       rd = pre .bounded .rd _ (omega (arith, pre .disk, pre .start));
@@ -36,19 +36,19 @@ verification-row-requires c κs = search needs
 slice-aggregate-offer-copies : tie.Need-slice-aggregate-offer-copies
 slice-aggregate-offer-copies c = search needs
 
-memory-copies-requires : tie.Need-memory-copies-requires
-memory-copies-requires c κs = search needs
+column-of-requires : tie.Need-column-of-requires
+column-of-requires c κs = search needs
 
 offer-copies-requires : tie.Need-offer-copies-requires
 offer-copies-requires c κs =
     let pre = c .before .before .before .before .before .before .before .before .before .before .before .before .pre in
     let verification-row = c .before .before .before .before .before .verification-row in
-    let memory-copies = c .memory-copies in
+    let column-of = c .column-of in
     let args = c .before .before .before .before .before .before .before .before .before .before .before .before .args in
     record {
       rows = pre .rows;
       part-long = verification-row .ensures .long;
-      copies-long = rw (memory-copies .ensures) (length-column cmStart (args .t .now) (pre .bounded .long) (omega arith));
+      copies-long = rw (column-of .ensures) (length-column cmStart (args .t .now) (omega (arith, pre .bounded .long)));
       start = pre .start;
       few = pre .bounded .few;
       reached = omega (arith, pre .reached);
@@ -65,12 +65,12 @@ returns : tie.Need-returns
 returns c =
     let recoveries = c .before .before .before .before .before .before .before .before .before .before .before .before .recoveries in
     let verification-row = c .before .before .before .before .before .before .before .before .before .before .verification-row in
-    let memory-copies = c .before .before .before .before .before .memory-copies in
+    let column-of = c .before .before .before .before .before .column-of in
     let pre = c .before .before .before .before .before .before .before .before .before .before .before .before .before .before .before .before .before .pre in
     let offer-copies = c .before .before .before .before .offer-copies in
     let row = table-row _ _ _ _ _ _ (recoveries .ensures .value) _ (verification-row .ensures) in
     offered-agree _ _ _ _ _ _ _ _
-    (λ w a b. rw (memory-copies .ensures) (memory-arrival _ _ _ (omega (arith, pre .bounded .few)) _ _ _ row w a b)) (offer-copies .ensures)
+    (λ w a b. rw (column-of .ensures) (memory-arrival _ _ _ (omega (arith, pre .bounded .few)) _ _ _ row w a b)) (offer-copies .ensures)
 
 pub offer-memory-spec : {M : Type 1} → statement M
 offer-memory-spec =
@@ -82,7 +82,7 @@ offer-memory-spec =
     slice-aggregate-verification-row
     verification-row-requires
     slice-aggregate-offer-copies
-    memory-copies-requires
+    column-of-requires
     offer-copies-requires
     same-length
     same-length-2

@@ -43,13 +43,13 @@ pub record Cut (N b : ℕ) (cost : Cost) (Live : ℕ → Type 0) (top : ℕ) (ti
   pub backs : (v : ℕ) → v ≤ top → v ≢ b → Live v → getD back-row v 0 ≡ back N b cost v
 
 -- a memory copy after the disk copy d that leaves room for what comes after: less than `left` from d to the end
-abbrev pub LiveCopy : (t b : List ℕ) → (d left : ℕ) → ℕ → Type 0
-LiveCopy t b d left v = leastM (chainIn t) none d v + boundsIn b .after d v < left
+abbrev pub LiveCopy : (n : ℕ) → (t b : List ℕ) → (d left : ℕ) → ℕ → Type 0
+LiveCopy n t b d left v = leastM (chainIn t) none d v + boundsIn n b .after d v < left
 
 -- a disk copy that may be on the plan of n tasks: n or up to the last disk copy before it, with room for what comes after
 pub record OnPlan (t b : List ℕ) (n v : ℕ) : Type 0 where
   pub place : (v ≡ n) ⊎ (v ≤ backD (chainIn t) none n)
-  pub room : leastD (chainIn t) none v + boundsIn b .after v v ≤ leastD (chainIn t) none n
+  pub room : leastD (chainIn t) none v + boundsIn n b .after v v ≤ leastD (chainIn t) none n
 
 -- and the plan is not slower than the limit
 pub record LiveDisk (t b : List ℕ) (limit n v : ℕ) : Type 0 where
@@ -57,20 +57,20 @@ pub record LiveDisk (t b : List ℕ) (limit n v : ℕ) : Type 0 where
   pub on-plan : OnPlan t b n v
 
 -- r is m or a later memory copy, and no copy after r can matter: v is already reached no later than its bound from m, or what comes after it leaves no room
-pub record Far (time t b : List ℕ) (d m left top r : ℕ) : Type 0 where
+pub record Far (n : ℕ) (time t b : List ℕ) (d m left top r : ℕ) : Type 0 where
   pub from : m ≤ r
   pub to : r ≤ top
   pub reached : m < r → getD time m 0 < none
   pub reaches : (v : ℕ) → m < v → v ≤ top
-      → low (chainIn t) (boundsIn b) m (getD time m 0) (column rdStart t d + getD time m 0) v < getD time v 0
-      → low (chainIn t) (boundsIn b) m (getD time m 0) (column rdStart t d + getD time m 0) v + boundsIn b .after d v < left
+      → low (chainIn t) (boundsIn n b) m (getD time m 0) (column rdStart t d + getD time m 0) v < getD time v 0
+      → low (chainIn t) (boundsIn n b) m (getD time m 0) (column rdStart t d + getD time m 0) v + boundsIn n b .after d v < left
       → v ≤ r
 
 -- the arrivals at disk copies from d have been offered, by a cut row of memory copies
 pub record OffersDisk (time backs t b : List ℕ) (d left n : ℕ) (time' backs' : List ℕ) : Type 0 where
   pub copies : List ℕ
   pub froms : List ℕ
-  pub row : Cut none d (toMemory (chainIn t) none d) (LiveCopy t b d left) n copies froms
+  pub row : Cut none d (toMemory (chainIn t) none d) (LiveCopy n t b d left) n copies froms
   pub offered : Offered time backs d (n + 1) (λ w. getD time d 0 + getD copies w 0 + column cdStart t w) time' backs'
 
 pub record ReadyForCopies (time backs : List ℕ) (u : ℕ) (part copies : List ℕ) (top : ℕ) : Type 0 where
@@ -82,10 +82,10 @@ pub record ReadyForCopies (time backs : List ℕ) (u : ℕ) (part copies : List 
   pub reached : getD time u 0 ≤ none
   pub parts : (w : ℕ) → u < w → w ≤ top → getD part w 0 ≤ none
 
-pub record ReadyForFar (time t b : List ℕ) (d m top : ℕ) : Type 0 where
+pub record ReadyForFar (n : ℕ) (time t b : List ℕ) (d m top : ℕ) : Type 0 where
   pub long : length time ≡ positions
   pub bounded : Bounded top t
-  pub bounding : Bounding top t b
+  pub bounding : Bounding n top t b
   pub disk : d ≤ m
   pub start : m ≤ top
   pub capped : (v : ℕ) → v ≤ top → getD time v 0 ≤ none
@@ -98,17 +98,17 @@ pub record ReadyForMemory (time backs t : List ℕ) (d m top : ℕ) : Type 0 whe
   pub start : m ≤ top
   pub reached : getD time m 0 < none
 
-pub record ReadyForMemoryRow (time backs t b : List ℕ) (d left top : ℕ) : Type 0 where
+pub record ReadyForMemoryRow (n : ℕ) (time backs t b : List ℕ) (d left top : ℕ) : Type 0 where
   pub fresh : FreshRows time backs
   pub bounded : Bounded top t
-  pub bounding : Bounding top t b
+  pub bounding : Bounding n top t b
   pub start : d ≤ top
   pub room : left ≤ none
 
 pub record ReadyForDisk (time backs t b : List ℕ) (d left n : ℕ) : Type 0 where
   pub rows : Rows time backs
   pub bounded : Bounded n t
-  pub bounding : Bounding n t b
+  pub bounding : Bounding n n t b
   pub start : d ≤ n
   pub reached : getD time d 0 ≤ none
   pub room : left ≤ none
@@ -116,6 +116,6 @@ pub record ReadyForDisk (time backs t b : List ℕ) (d left n : ℕ) : Type 0 wh
 pub record ReadyForDiskRow (time backs t b : List ℕ) (limit n : ℕ) : Type 0 where
   pub fresh : FreshRows time backs
   pub bounded : Bounded n t
-  pub bounding : Bounding n t b
-  pub ends : boundsIn b .after n n ≡ 0
+  pub bounding : Bounding n n t b
+  pub ends : boundsIn n b .after n n ≡ 0
   pub limited : limit < none

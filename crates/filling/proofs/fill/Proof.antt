@@ -1,6 +1,10 @@
 -- `filling::fill` meets its contract. The loop's invariant: the stretches of the near ends before u have their factors. The measure is what is left of the near ends. Assumes nothing.
-use Prim.Native.Nat.{_+_, _-_, _≤_}
-use mathlib.Core.Path.{_≡_, sym, _∙_}
+use mathlib.Core.List.{List}
+use lib.ListN.{length}
+use Rattle.job.specs.declared.Job.{Job}
+use Rattle.costs.specs.declared.Powers.{Powers}
+use Prim.Native.Nat.{_+_, _-_, _≤_, ℕ}
+use mathlib.Core.Path.{_≡_, _∙_, refl}
 use native.Mathlib.Omega.{arith}
 use Rattle.table.proofs.Table.{firsts-put}
 use Rattle.filling.specs.Working.Fill.{PairsTo}
@@ -9,8 +13,13 @@ use borrow.Author.Needs.{needs}
 use Rattle.filling.proofs.fill.Statement.{statement}
 use Rattle.filling.proofs.fill.Tie as tie
 
+record Near-to (t₀ : List ℕ) (powers : Powers) (job : Job) (t : List ℕ) (u : ℕ) : Type 0 where
+  pub within : u ≤ job .tasks
+  pub pairs : PairsTo powers job u (u + 1) t
+  pub same-long : length t ≡ length t₀
+
 abbrev Inv-loop : tie.InvT-loop
-Inv-loop t₀ powers job n sums u₀ t u = (u ≤ job .tasks) × PairsTo powers job u (u + 1) t
+Inv-loop t₀ powers job n sums u₀ t u = Near-to t₀ powers job t u
 
 abbrev μ-loop : tie.MeasureT-loop
 μ-loop t₀ powers job n sums u₀ t u = job .tasks - u
@@ -23,7 +32,7 @@ totals-requires c κs =
 loop-holds : tie.Need-loop-holds Inv-loop μ-loop
 loop-holds c =
     let pre = c .before .before .pre in
-    (omega arith, pairs-none _ _ _ (pre .long))
+    record { within = omega arith; pairs = pairs-none _ _ _ (pre .long); same-long = refl }
 
 slice-aggregate-fill-pairs : tie.Need-slice-aggregate-fill-pairs Inv-loop μ-loop
 slice-aggregate-fill-pairs c = search needs
@@ -33,7 +42,7 @@ fill-pairs-requires c κs =
     let pre = c .before .before .before .before .before .before .pre in
     let totals = c .before .before .before .before .totals in
     let loop = c .before .before .before .loop in
-    record { sound = pre .sound; products = pre .products; totals = totals .ensures; near = omega arith; filled = loop .inv .1 }
+    record { sound = pre .sound; products = pre .products; totals = totals .ensures; near = omega arith; filled = loop .inv .pairs }
 
 add-u : tie.Need-add-u Inv-loop μ-loop
 add-u c =
@@ -47,14 +56,16 @@ loop-again : tie.Need-loop-again Inv-loop μ-loop
 loop-again c =
     let loop = c .before .before .before .before .before .before .loop in
     let fill-pairs = c .before .before .fill-pairs in
-    (omega arith, let e : loop .u + 1 + 1 ≡ loop .u + 2 = omega arith in rw e (fill-pairs .ensures))
+    let t = c .before .t in
+    let e : loop .u + 1 + 1 ≡ loop .u + 2 = omega arith in
+    record { within = omega arith; pairs = rw e (fill-pairs .ensures); same-long = t .given ∙ loop .inv .same-long }
 
 fill-costs-requires : tie.Need-fill-costs-requires Inv-loop μ-loop
 fill-costs-requires c κs =
     let loop = c .before .before .loop in
     let args = c .before .before .before .before .before .args in
     let pre = c .before .before .before .before .before .pre in
-    let e : loop .u ≡ args .job .tasks = omega arith in record { sound = pre .sound; products = pre .products; filled = rw e at (loop .inv .1) }
+    let e : loop .u ≡ args .job .tasks = omega (arith, loop .inv .within) in record { sound = pre .sound; products = pre .products; filled = rw e at (loop .inv .pairs) }
 
 put-firsts-requires : tie.Need-put-firsts-requires Inv-loop μ-loop
 put-firsts-requires c κs =
@@ -67,7 +78,9 @@ same-length c =
     let put-firsts = c .before .before .put-firsts in
     let fill-costs = c .before .before .before .before .before .before .fill-costs in
     let pre = c .before .before .before .before .before .before .before .before .before .before .before .before .pre in
-    put-firsts .ensures .long ∙ fill-costs .ensures .long ∙ sym (pre .long)
+    let loop = c .before .before .before .before .before .before .before .before .before .loop in
+    let t2 = c .before .before .before .before .before .t2 in
+    put-firsts .ensures .long ∙ t2 .given ∙ loop .inv .same-long
 
 returns : tie.Need-returns Inv-loop μ-loop
 returns c =

@@ -1,5 +1,6 @@
 -- `filling::totals` meets its contract. The loop's invariant: the entry at v is the weight up to v. The measure is what is left of the tasks. Assumes
 -- nothing.
+use mathlib.Core.List.{List}
 use Prim.Native.Nat.{ℕ, _+_, _-_, _≤_}
 use mathlib.Core.Path.{_≡_}
 use native.Mathlib.Omega.{arith}
@@ -13,15 +14,23 @@ use Rattle.filling.proofs.totals.Statement.{statement}
 use Rattle.filling.proofs.totals.Tie as tie
 use borrow.Author.Needs.{needs}
 
+record Totals-to (weights : List ℕ) (n : ℕ) (sums : List ℕ) (j : ℕ) : Type 0 where
+  pub within : j ≤ n
+  pub totals : Totals weights j sums
+
 abbrev Inv-loop : tie.InvT-loop
-Inv-loop n weights sums₀ j₀ sums j = (j ≤ n) × Totals weights j sums
+Inv-loop n weights sums₀ j₀ sums j = Totals-to weights n sums j
 
 abbrev μ-loop : tie.MeasureT-loop
 μ-loop n weights sums₀ j₀ sums j = n - j
 
 loop-holds : tie.Need-loop-holds Inv-loop μ-loop
 unfolding total
-loop-holds c = (search needs, record { long = length-replicate {A = ℕ} positions 0; sums-at = λ v h. let e : v ≡ 0 = omega arith in rw e })
+loop-holds c =
+    record {
+      within = omega arith;
+      totals = record { long = length-replicate {A = ℕ} positions 0; sums-at = λ v h. let e : v ≡ 0 = omega arith in rw e };
+    }
 
 mul-sums : tie.Need-mul-sums Inv-loop μ-loop
 mul-sums c =
@@ -53,7 +62,7 @@ add-sums c =
     let pre = c .before .before .before .pre in
     omega (
       arith,
-      loop .inv .1 .sums-at (loop .j) (omega arith),
+      loop .inv .totals .sums-at (loop .j) (omega arith),
       total-more (args .job .weights) (loop .j),
       total-range (args .job) pre (loop .j + 1) (omega arith),
     )
@@ -85,13 +94,13 @@ loop-again : tie.Need-loop-again Inv-loop μ-loop
 loop-again c =
     let loop = c .before .loop in
     let pre = c .before .before .before .pre in
-    (omega arith, totals-more _ _ _ (loop .inv .1) (omega (arith, pre .few-tasks)))
+    record { within = omega arith; totals = totals-more _ _ _ (loop .inv .totals) (omega (arith, pre .few-tasks)) }
 
 returns : tie.Need-returns Inv-loop μ-loop
 returns c =
     let loop = c .before .loop in
     let args = c .before .before .before .args in
-    let e : loop .j ≡ args .job .tasks = omega arith in rw e at (loop .inv .1)
+    let e : loop .j ≡ args .job .tasks = omega (arith, loop .inv .within) in rw e at (loop .inv .totals)
 
 pub totals-spec : {M : Type 1} → statement M
 totals-spec =

@@ -13,7 +13,7 @@ use Rattle.costs.specs.Costs.{cmAt, cdAt, rdAt, rmAt}
 use Rattle.costs.specs.Energy.{energyChain, ProductsFit}
 use Rattle.costs.specs.Working.Factors.{energyFactorsAt, FactorsIfAllowed}
 use Rattle.costs.specs.declared.Powers.{Powers}
-use Rattle.table.specs.Working.Table.{tableLength, cmStart, cdStart, rdStart, rmStart, entryOf, column, chainIn, Bounded}
+use Rattle.table.specs.Working.Table.{needed, cmStart, cdStart, rdStart, rmStart, entryOf, column, chainIn, Bounded}
 
 -- the weight up to each position, up to position k
 pub record Totals (w : List ℕ) (k : ℕ) (sums : List ℕ) : Type 0 where
@@ -26,12 +26,12 @@ EarlierPair x y u v = (x < u) ⊎ ((x ≡ u) × (y < v))
 
 -- the stretches of the job before the pair (u, v) have their factors, if allowed
 pub record PairsTo (powers : Powers) (job : Job) (u v : ℕ) (t : List ℕ) : Type 0 where
-  pub long : length t ≡ tableLength
+  pub long : needed (job .tasks) ≤ length t
   pub pairs : (x y : ℕ) → x < y → y ≤ job .tasks → EarlierPair x y u v → FactorsIfAllowed (energyFactorsAt powers job x y) (entryOf t x y)
 
 -- all stretches of the job have their factors, if allowed, and the positions before k their costs
 pub record TableTo (powers : Powers) (job : Job) (k : ℕ) (t : List ℕ) : Type 0 where
-  pub long : length t ≡ tableLength
+  pub long : needed (job .tasks) ≤ length t
   pub pairs : (x y : ℕ) → x < y → y ≤ job .tasks → FactorsIfAllowed (energyFactorsAt powers job x y) (entryOf t x y)
   pub cm : (v : ℕ) → v < k → column cmStart t v ≡ powers .saving * cmAt job v
   pub cd : (v : ℕ) → v < k → column cdStart t v ≡ powers .saving * cdAt job v
@@ -59,4 +59,4 @@ pub record ReadyForCosts (powers : Powers) (job : Job) (t : List ℕ) : Type 0 w
 pub record ReadyToFill (powers : Powers) (job : Job) (t : List ℕ) : Type 0 where
   pub sound : Sound job
   pub products : ProductsFit powers job
-  pub long : length t ≡ tableLength
+  pub long : needed (job .tasks) ≤ length t

@@ -8,7 +8,7 @@ use Rattle.table.specs.Working.Table.{Bounded}
 
 pub record ReadyForNext (t b : List ℕ) (d u n : ℕ) : Type 0 where
   pub bounded : Bounded n t
-  pub bounding : Bounding n t b
+  pub bounding : Bounding n n t b
   pub disk : d ≤ u
   pub order : u < n
 

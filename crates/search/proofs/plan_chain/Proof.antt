@@ -1,32 +1,17 @@
 -- `search::plan_chain` meets its contract. Least times below the limit are those of a setting, whose marks are copied; at the limit every setting is too slow. Assumes nothing.
-use Prim.Native.Nat.{ℕ}
+use native.Mathlib.Nat.{le-of-eq, le-trans, lt-of-le-of-lt}
 use mathlib.Core.Path.{sym}
-use native.Mathlib.Omega.{arith}
-use native.Mathlib.Nat.{le-trans, le-of-eq, lt-of-le-of-lt}
-use lib.ListN.{length-replicate}
-use Rattle.bounds.specs.Working.Bounds.{boundsLength}
-use Rattle.bounds.proofs.Bounds.{chainIn-rises}
 use Rattle.answers.proofs.Promises.{slow-answer, plan-answer}
+use Rattle.bounds.proofs.Bounds.{chainIn-rises}
 use borrow.Author.Needs.{needs}
 use Rattle.search.proofs.plan_chain.Statement.{statement}
 use Rattle.search.proofs.plan_chain.Tie as tie
 
-slice-aggregate-fill-bounds : tie.Need-slice-aggregate-fill-bounds
-slice-aggregate-fill-bounds c = search needs
-
 fill-bounds-requires : tie.Need-fill-bounds-requires
-fill-bounds-requires c κs =
-    let pre = c .before .before .before .pre in
-    record { long = length-replicate {A = ℕ} boundsLength 0; bounded = pre .bounded }
-
-slice-aggregate-find : tie.Need-slice-aggregate-find
-slice-aggregate-find c = search needs
+fill-bounds-requires c κs = search needs
 
 find-requires : tie.Need-find-requires
-find-requires c κs =
-    let pre = c .before .before .before .before .before .before .pre in
-    let fill-bounds = c .before .before .fill-bounds in
-    record { bounded = pre .bounded; bounds = fill-bounds .ensures }
+find-requires c κs = search needs
 
 mul-least : tie.Need-mul-least
 mul-least c = search needs
@@ -37,10 +22,13 @@ array-read-least c = search needs
 refused-requires : tie.Need-refused-requires
 refused-requires c κs = search needs
 
+same-length : tie.Need-same-length
+same-length c = search needs
+
 returns : tie.Need-returns
 returns c =
     let refused = c .refused in
-    let pre = c .before .before .before .before .before .before .before .before .before .before .before .pre in
+    let pre = c .before .before .before .before .before .before .before .before .before .before .before .before .before .pre in
     let if1 = c .before .if1 in
     let find = c .before .before .before .before .find in
     rw (refused .ensures) (slow-answer _ (chainIn-rises _) _ (pre .some-task) _ (le-trans (if1 .taken) (le-of-eq (find .ensures .least))))
@@ -51,13 +39,10 @@ slice-aggregate-plan-marks c = search needs
 slice-aggregate-plan-marks-2 : tie.Need-slice-aggregate-plan-marks-2
 slice-aggregate-plan-marks-2 c = search needs
 
-slice-aggregate-plan-marks-3 : tie.Need-slice-aggregate-plan-marks-3
-slice-aggregate-plan-marks-3 c = search needs
-
 plan-marks-requires : tie.Need-plan-marks-requires
 plan-marks-requires c κs =
-    let pre = c .before .before .before .before .before .before .before .before .before .before .before .before .before .pre in
-    let fill-bounds = c .before .before .before .before .before .before .before .before .before .fill-bounds in
+    let pre = c .before .before .before .before .before .before .before .before .before .before .before .before .before .before .before .pre in
+    let fill-bounds = c .before .before .before .before .before .before .before .before .before .before .fill-bounds in
     let find = c .before .before .before .before .before .before .find in
     let if1 = c .before .before .before .if1 in
     record {
@@ -69,20 +54,21 @@ plan-marks-requires c κs =
     }
 
 copy-marks-requires : tie.Need-copy-marks-requires
-copy-marks-requires c κs =
-    let pre = c .before .before .before .before .before .before .before .before .before .before .before .before .before .before .before .pre in
-    record { room = pre .room; few = omega (arith, pre .bounded .few) }
+copy-marks-requires c κs = search needs
 
 accepted-requires : tie.Need-accepted-requires
 accepted-requires c κs = search needs
 
-same-length : tie.Need-same-length
-same-length c = search needs
+same-length-2 : tie.Need-same-length-2
+same-length-2 c = search needs
+
+same-length-3 : tie.Need-same-length-3
+same-length-3 c = search needs
 
 returns-2 : tie.Need-returns-2
 returns-2 c =
     let accepted = c .accepted in
-    let pre = c .before .before .before .before .before .before .before .before .before .before .before .before .before .before .before .before .before .before .before .pre in
+    let pre = c .before .before .before .before .before .before .before .before .before .before .before .before .before .before .before .before .before .before .before .before .before .pre in
     let plan-marks = c .before .before .before .before .before .plan-marks in
     let copy-marks = c .before .before .before .copy-marks in
     let find = c .before .before .before .before .before .before .before .before .before .before .before .before .find in
@@ -94,19 +80,18 @@ pub plan-chain-spec : {M : Type 1} → statement M
 plan-chain-spec =
     tie.close
     (tie.spec
-    slice-aggregate-fill-bounds
     fill-bounds-requires
-    slice-aggregate-find
     find-requires
     mul-least
     array-read-least
     refused-requires
+    same-length
     returns
     slice-aggregate-plan-marks
     slice-aggregate-plan-marks-2
-    slice-aggregate-plan-marks-3
     plan-marks-requires
     copy-marks-requires
     accepted-requires
-    same-length
+    same-length-2
+    same-length-3
     returns-2)

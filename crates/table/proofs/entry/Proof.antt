@@ -10,6 +10,9 @@ pair-index-requires c κs = search needs
 mul-at : tie.Need-mul-at
 mul-at c = search needs
 
+add-at : tie.Need-add-at
+add-at c = search needs
+
 mul-wide : tie.Need-mul-wide
 mul-wide c = search needs
 
@@ -77,6 +80,7 @@ entry-spec =
     (tie.spec
     pair-index-requires
     mul-at
+    add-at
     mul-wide
     shared-slice-read-wide
     wide-requires

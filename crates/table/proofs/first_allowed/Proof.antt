@@ -1,5 +1,5 @@
 -- `table::first_allowed` meets its contract. The loop's invariant: no stretch to v from before u is allowed. The measure is what is left of the positions. Assumes nothing.
-use Prim.Native.Nat.{_-_, _≤_}
+use Prim.Native.Nat.{_-_}
 use mathlib.Core.Path.{_≡_, _∙_, sym, ap}
 use native.Mathlib.Omega.{arith}
 use Rattle.chain.specs.declared.Factors.{Factors}
@@ -9,13 +9,13 @@ use Rattle.table.proofs.first_allowed.Statement.{statement}
 use Rattle.table.proofs.first_allowed.Tie as tie
 
 abbrev Inv-loop : tie.InvT-loop
-Inv-loop t v u₀ u = (u ≤ v) × FirstIs t v u
+Inv-loop t v u₀ u = FirstIs t v u
 
 abbrev μ-loop : tie.MeasureT-loop
 μ-loop t v u₀ u = v - u
 
 loop-holds : tie.Need-loop-holds Inv-loop μ-loop
-loop-holds c = (omega arith, first-none _ _)
+loop-holds c = first-none _ _
 
 entry-requires : tie.Need-entry-requires Inv-loop μ-loop
 entry-requires c κs =
@@ -25,7 +25,7 @@ entry-requires c κs =
 returns : tie.Need-returns Inv-loop μ-loop
 returns c =
     let loop = c .before .before .before .before .loop in
-    loop .inv .1
+    loop .inv
 
 add-u : tie.Need-add-u Inv-loop μ-loop
 add-u c =
@@ -40,13 +40,13 @@ loop-again c =
     let loop = c .before .before .before .before .loop in
     let entry = c .before .before .entry in
     let if1 = c .if1 in
-    (omega arith, first-more _ _ _ (loop .inv .1) (omega arith) (sym (ap (λ (f : Factors). f .both) (entry .ensures)) ∙ if1 .left))
+    first-more _ _ _ (loop .inv) (omega arith) (sym (ap (λ (f : Factors). f .both) (entry .ensures)) ∙ if1 .left)
 
 returns-2 : tie.Need-returns-2 Inv-loop μ-loop
 returns-2 c =
     let loop = c .before .loop in
     let args = c .before .before .before .args in
-    let e : loop .u ≡ args .v = omega arith in rw e at (loop .inv .1)
+    let e : loop .u ≡ args .v = omega (arith, loop .inv .within) in rw e at (loop .inv)
 
 pub first-allowed-spec : {M : Type 1} → statement M
 first-allowed-spec =

@@ -14,6 +14,9 @@ pair-index-requires c κs = search needs
 mul-at : tie.Need-mul-at
 mul-at c = search needs
 
+add-at : tie.Need-add-at
+add-at c = search needs
+
 cast-t : tie.Need-cast-t
 cast-t c = search needs
 
@@ -86,6 +89,7 @@ put-pair-spec =
     (tie.spec
     pair-index-requires
     mul-at
+    add-at
     cast-t
     mul-t
     slice-write-t

@@ -1,8 +1,9 @@
--- The table that holds a chain, in entries of 32 bits: four for each pair of positions u < v, then a column for each cost, and one for the first near end of a stretch
--- to v that is allowed. `chainIn` is the chain that it holds.
+-- The table that holds a chain, in entries of 32 bits: a column for each cost, by position, and one for the first near end of a stretch to v that is allowed; then four
+-- entries for each pair of positions u < v, the pairs of a far end together. So the table of a short chain is the front of a longer one's. `chainIn` is the chain that it
+-- holds.
 use Prim.Native.Nat.{ℕ, zero, suc, _+_, _-_, _*_, _/_, _%_, _^_, _≤_, _<_}
 use mathlib.Core.Path.{_≡_}
-use mathlib.Core.Logic.{_≢_}
+use mathlib.Core.Logic.{_≢_, _⊎_}
 use mathlib.Core.Bool.{cond, not}
 use mathlib.Core.List.{List, [], _∷_}
 use lib.Dec.{eqb}
@@ -14,24 +15,13 @@ use Rattle.chain.specs.Working.Factors.{stretchOf, Factored, Recoverable}
 use Rattle.chain.specs.declared.Factors.{Factors}
 use Rattle.chain.specs.declared.Recoveries.{Recoveries}
 use Rattle.units.specs.Limits.{positions}
-use Rattle.table.specs.declared.Costs.{Costs}
-
--- 0 + 1 + .. + (k - 1): the pairs of k positions
-unfoldable pub triangle : ℕ → ℕ
-triangle zero = 0
-triangle (suc k) = triangle k + k
-
-abbrev pub pairs : ℕ
-pairs = positions * (positions - 1) / 2
-
-abbrev pub pairEntries : ℕ
-pairEntries = 4
 
 abbrev pub half : ℕ
 half = 2 ^ 32
 
+-- where each column starts
 abbrev pub cmStart : ℕ
-cmStart = pairEntries * pairs
+cmStart = 0
 
 abbrev pub cdStart : ℕ
 cdStart = cmStart + positions
@@ -45,8 +35,24 @@ rmStart = rdStart + positions
 abbrev pub firstStart : ℕ
 firstStart = rmStart + positions
 
+abbrev pub pairsStart : ℕ
+pairsStart = firstStart + positions
+
+abbrev pub pairEntries : ℕ
+pairEntries = 4
+
+-- 0 + 1 + .. + (k - 1): the pairs of k positions
+unfoldable pub triangle : ℕ → ℕ
+triangle zero = 0
+triangle (suc k) = triangle k + k
+
+-- how long the table of n tasks is
+abbrev pub needed : ℕ → ℕ
+needed n = pairsStart + pairEntries * triangle (suc n)
+
+-- as long as for the longest chain, in the way that the code works it out
 abbrev pub tableLength : ℕ
-tableLength = firstStart + positions
+tableLength = pairsStart + pairEntries * (positions * (positions - 1) / 2)
 
 -- which pair (u, v) is: the pairs of a far end stand together
 unfoldable pub pairIndex : ℕ → ℕ → ℕ
@@ -54,7 +60,7 @@ pairIndex u v = triangle v + u
 
 -- where its entries start
 abbrev pub pairAt : ℕ → ℕ → ℕ
-pairAt u v = pairEntries * pairIndex u v
+pairAt u v = pairsStart + pairEntries * pairIndex u v
 
 -- the factors of the pair
 unfoldable pub entryOf : List ℕ → ℕ → ℕ → Factors
@@ -94,7 +100,7 @@ pub record Firsts (n : ℕ) (t : List ℕ) : Type 0 where
 
 -- how far the numbers of the table may go, up to the position n
 pub record Bounded (n : ℕ) (t : List ℕ) : Type 0 where
-  pub long : length t ≡ tableLength
+  pub long : needed n ≤ length t
   pub few : n < positions
   pub factored : (u v : ℕ) → u < v → v ≤ n → entryOf t u v .both ≢ 0 → Factored (entryOf t u v)
   pub cm : (v : ℕ) → v ≤ n → column cmStart t v ≤ costLimit
@@ -110,10 +116,10 @@ pub record IsPair (u v : ℕ) : Type 0 where
 
 pub record InTable (u v r : ℕ) : Type 0 where
   pub value : r ≡ pairIndex u v
-  pub within : r < pairs
+  pub within : r < triangle (suc v)
 
 pub record PairFits (t : List ℕ) (u v : ℕ) : Type 0 where
-  pub long : length t ≡ tableLength
+  pub long : needed v ≤ length t
   pub pair : IsPair u v
 
 -- the table with these entries from i on
@@ -134,22 +140,14 @@ pub record ReadyForPair (t : List ℕ) (u v : ℕ) (f : Factors) : Type 0 where
   pub fits : PairFits t u v
   pub packable : Packable f
 
--- the table with the costs of the position v
-unfoldable pub putCosts : List ℕ → ℕ → Costs → List ℕ
-putCosts t v c = set (set (set (set t (cmStart + v) (c .cm)) (cdStart + v) (c .cd)) (rdStart + v) (c .rd)) (rmStart + v) (c .rm)
-
-pub record ReadyForCosts (t : List ℕ) (v : ℕ) (c : Costs) : Type 0 where
-  pub long : length t ≡ tableLength
+-- a place in the column that starts there
+pub record InColumn (t : List ℕ) (start v : ℕ) : Type 0 where
+  pub long : start + positions ≤ length t
   pub few : v < positions
-  pub cm : c .cm < half
-  pub cd : c .cd < half
-  pub rd : c .rd < half
-  pub rm : c .rm < half
 
--- a place in each column
-pub record InColumn (t : List ℕ) (v : ℕ) : Type 0 where
-  pub long : length t ≡ tableLength
-  pub few : v < positions
+pub record ReadyForColumn (t : List ℕ) (start v x : ℕ) : Type 0 where
+  pub place : InColumn t start v
+  pub range : x < half
 
 -- r is v, or a position before it, and no stretch to v from before r is allowed
 pub record FirstIs (t : List ℕ) (v r : ℕ) : Type 0 where
@@ -159,16 +157,16 @@ pub record FirstIs (t : List ℕ) (v r : ℕ) : Type 0 where
 -- the table t with the firsts of the positions before e, and else the same
 pub record FirstsPut (t : List ℕ) (e : ℕ) (t' : List ℕ) : Type 0 where
   pub long : length t' ≡ length t
-  pub others : (i : ℕ) → i < firstStart → getD t' i 0 ≡ getD t i 0
+  pub others : (i : ℕ) → (i < firstStart) ⊎ (pairsStart ≤ i) → getD t' i 0 ≡ getD t i 0
   pub firsts : (v : ℕ) → v < e → FirstIs t v (column firstStart t' v)
 
 pub record ReadyForFirsts (t : List ℕ) (n : ℕ) : Type 0 where
-  pub long : length t ≡ tableLength
+  pub long : needed n ≤ length t
   pub few : n < positions
 
 -- the last copies d and m, with the time M' at m
 pub record ReadyForRecoveries (t : List ℕ) (d m M' : ℕ) : Type 0 where
-  pub long : length t ≡ tableLength
+  pub long : pairsStart ≤ length t
   pub d-few : d < positions
   pub m-few : m < positions
   pub rd : column rdStart t d ≤ diskRecoveryCap

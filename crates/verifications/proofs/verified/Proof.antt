@@ -22,7 +22,7 @@ abbrev μ-loop : tie.MeasureT-loop
 first-of-requires : tie.Need-first-of-requires Inv-loop μ-loop
 first-of-requires c κs =
     let pre = c .before .before .pre in
-    record { long = pre .ready .bounded .long; few = pre .ready .bounded .few }
+    record { long = omega (arith, pre .ready .bounded .long); few = pre .ready .bounded .few }
 
 later-requires : tie.Need-later-requires Inv-loop μ-loop
 later-requires c κs = search needs

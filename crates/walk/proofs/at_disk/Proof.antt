@@ -62,7 +62,7 @@ memory-row-requires c κs =
     record {
       fresh = record { times = refl; positions-before = refl };
       bounded = bounded-less _ _ _ (pre .within) (pre .ready .bounded);
-      bounding = bounding-less _ _ _ _ (pre .within) (pre .ready .bounding);
+      bounding = bounding-less _ _ _ _ _ (pre .within) (pre .ready .bounding);
       start = omega (arith, range .below);
       room = omega (arith, pre .ready .found .least, pre .ready .in-time);
     }

@@ -25,7 +25,7 @@ recoveries-requires c κs =
     let state = walking .state in
     let bounded = pre .ready .bounded in
     record {
-      long = bounded .long;
+      long = omega (arith, bounded .long);
       d-few = omega (arith, state .d-m, state .m-v, pre .within, bounded .few);
       m-few = omega (arith, state .m-v, pre .within, bounded .few);
       rd = bounded .rd _ (omega (arith, state .d-m, state .m-v, pre .within));

@@ -23,7 +23,7 @@ pub record Found (t b : List ℕ) (n : ℕ) (time back-row : List ℕ) : Type 0 
   pub least : getD time n 0 ≡ leastD (chainIn t) none n
   pub times : leastD (chainIn t) none n < none → (v : ℕ) → v ≤ n → OnPlan t b n v → getD time v 0 ≡ leastD (chainIn t) none v
   pub backs : leastD (chainIn t) none n < none → (v : ℕ) → v ≤ n → v ≢ 0 → OnPlan t b n v → getD back-row v 0 ≡ backD (chainIn t) none v
-  pub ends : boundsIn b .after n n ≡ 0
+  pub ends : boundsIn n b .after n n ≡ 0
 
 -- less than this is left from the disk copy d to the end
 abbrev pub leftFrom : List ℕ → (n d : ℕ) → ℕ
@@ -31,11 +31,11 @@ leftFrom t n d = leastD (chainIn t) none n + 1 - leastD (chainIn t) none d
 
 -- the memory row from d up to the position `top`, cut by what is left
 abbrev pub CopyRow : (t b : List ℕ) → (n d top : ℕ) → (times copies : List ℕ) → Type 0
-CopyRow t b n d top times copies = Cut none d (toMemory (chainIn t) none d) (LiveCopy t b d (leftFrom t n d)) top times copies
+CopyRow t b n d top times copies = Cut none d (toMemory (chainIn t) none d) (LiveCopy n t b d (leftFrom t n d)) top times copies
 
 -- the memory copy m after the disk copy d leaves room for what comes after
 abbrev pub HasRoom : (t b : List ℕ) → (n d m : ℕ) → Type 0
-HasRoom t b n d m = leastD (chainIn t) none d + leastM (chainIn t) none d m + boundsIn b .after d m ≤ leastD (chainIn t) none n
+HasRoom t b n d m = leastD (chainIn t) none d + leastM (chainIn t) none d m + boundsIn n b .after d m ≤ leastD (chainIn t) none n
 
 -- a step of the walk: v has mark k and the last copies before it are d and m, with the memory row from d and the row of verifications from m
 pub record Walking (t b : List ℕ) (n : ℕ) (w : Walk) : Type 0 where
@@ -70,7 +70,7 @@ pub record AtCopy (t b : List ℕ) (n k d v : ℕ) (r : Walk) : Type 0 where
 
 pub record ReadyToWalk (t b : List ℕ) (n : ℕ) (time backs : List ℕ) : Type 0 where
   pub bounded : Bounded n t
-  pub bounding : Bounding n t b
+  pub bounding : Bounding n n t b
   pub some-task : 0 < n
   pub in-time : leastD (chainIn t) none n < none
   pub found : Found t b n time backs

@@ -11,7 +11,7 @@ recoveries-requires : tie.Need-recoveries-requires
 recoveries-requires c κs =
     let pre = c .before .pre in
     record {
-      long = pre .bounded .long;
+      long = omega (arith, pre .bounded .long);
       d-few = omega (arith, pre .disk, pre .order, pre .bounded .few);
       m-few = omega (arith, pre .order, pre .bounded .few);
       rd = pre .bounded .rd _ (omega (arith, pre .disk, pre .order));
@@ -41,8 +41,8 @@ add-result c =
     let cap = reach-cap none (args .u) (arrivalAt (args .t .now) (recoveries .result)) (args .v) in
     omega (arith, pre .reached, row, cap)
 
-memory-copy-requires : tie.Need-memory-copy-requires
-memory-copy-requires c κs = search needs
+column-at-requires : tie.Need-column-at-requires
+column-at-requires c κs = search needs
 
 add-result-2 : tie.Need-add-result-2
 add-result-2 c =
@@ -50,10 +50,10 @@ add-result-2 c =
     let verification-row = c .before .before .verification-row in
     let args = c .before .before .before .before .before .before .args in
     let recoveries = c .before .before .before .before .recoveries in
-    let memory-copy = c .memory-copy in
+    let column-at = c .column-at in
     let row = verification-row .ensures .times (args .v) (omega (arith, pre .order)) (omega arith) in
     let cap = reach-cap none (args .u) (arrivalAt (args .t .now) (recoveries .result)) (args .v) in
-    omega (arith, pre .reached, row, cap, memory-copy .ensures, pre .bounded .cm (args .v) (omega arith))
+    omega (arith, pre .reached, row, cap, column-at .ensures, pre .bounded .cm (args .v) (omega arith))
 
 returns : tie.Need-returns
 returns c =
@@ -61,10 +61,10 @@ returns c =
     let verification-row = c .before .before .verification-row in
     let args = c .before .before .before .before .before .before .args in
     let recoveries = c .before .before .before .before .recoveries in
-    let memory-copy = c .memory-copy in
+    let column-at = c .column-at in
     let row = verification-row .ensures .times (args .v) (omega (arith, pre .order)) (omega arith) in
     let cap = reach-cap none (args .u) (arrivalAt (args .t .now) (recoveries .result)) (args .v) in
-    omega (arith, pre .reached, row, cap, memory-copy .ensures, pre .bounded .cm (args .v) (omega arith))
+    omega (arith, pre .reached, row, cap, column-at .ensures, pre .bounded .cm (args .v) (omega arith))
 
 pub copy-time-spec : {M : Type 1} → statement M
 copy-time-spec =
@@ -76,6 +76,6 @@ copy-time-spec =
     mul-result
     array-read-result
     add-result
-    memory-copy-requires
+    column-at-requires
     add-result-2
     returns)

@@ -1,5 +1,5 @@
 -- `finding::limit::first_limit` meets its contract. The loop's invariant: d and u are positions in order, and no time is above none. The measure is what is left of the positions. Assumes nothing.
-use Prim.Native.Nat.{_-_, _≤_}
+use Prim.Native.Nat.{_-_, _≤_, ℕ}
 use native.Mathlib.Omega.{arith}
 use Rattle.units.specs.Limits.{none}
 use Rattle.table.proofs.Table.{bounded-less}
@@ -7,27 +7,33 @@ use borrow.Author.Needs.{needs}
 use Rattle.finding.proofs.limit.first_limit.Statement.{statement}
 use Rattle.finding.proofs.limit.first_limit.Tie as tie
 
+record Placed-at (n d u on-disk in-memory : ℕ) : Type 0 where
+  pub order : d ≤ u
+  pub within : u ≤ n
+  pub disk-range : on-disk ≤ none
+  pub memory-range : in-memory ≤ none
+
 abbrev Inv-loop : tie.InvT-loop
-Inv-loop t b n d₀ u₀ on-disk₀ in-memory₀ d u on-disk in-memory = (d ≤ u) × (u ≤ n) × (on-disk ≤ none) × (in-memory ≤ none)
+Inv-loop t b n d₀ u₀ on-disk₀ in-memory₀ d u on-disk in-memory = Placed-at n d u on-disk in-memory
 
 abbrev μ-loop : tie.MeasureT-loop
 μ-loop t b n d₀ u₀ on-disk₀ in-memory₀ d u on-disk in-memory = n - u
 
 loop-holds : tie.Need-loop-holds Inv-loop μ-loop
-loop-holds c = (omega arith, omega arith, omega arith, omega arith)
+loop-holds c = record { order = omega arith; within = omega arith; disk-range = omega arith; memory-range = omega arith }
 
 next-copy-requires : tie.Need-next-copy-requires Inv-loop μ-loop
 next-copy-requires c κs =
     let pre = c .before .before .before .before .pre in
     let loop = c .before .loop in
-    record { bounded = pre .bounded; bounding = pre .bounds .bounding; disk = loop .inv .0; order = omega arith }
+    record { bounded = pre .bounded; bounding = pre .bounds .bounding; disk = loop .inv .order; order = omega arith }
 
 copy-time-requires : tie.Need-copy-time-requires Inv-loop μ-loop
 copy-time-requires c κs =
     let next-copy = c .next-copy in
     let pre = c .before .before .before .before .before .pre in
     let loop = c .before .before .loop in
-    record { bounded = bounded-less _ _ _ (next-copy .ensures .within) (pre .bounded); disk = loop .inv .0; order = next-copy .ensures .later; reached = loop .inv .3 }
+    record { bounded = bounded-less _ _ _ (next-copy .ensures .within) (pre .bounded); disk = loop .inv .order; order = next-copy .ensures .later; reached = loop .inv .memory-range }
 
 lesser-requires : tie.Need-lesser-requires Inv-loop μ-loop
 lesser-requires c κs = search needs
@@ -39,52 +45,52 @@ after-requires c κs =
     let next-copy = c .before .before .next-copy in
     record {
       long = pre .bounds .bounding .long;
-      near = omega (arith, loop .inv .0, next-copy .ensures .later, next-copy .ensures .within, pre .bounded .few);
-      far = omega (arith, next-copy .ensures .within, pre .bounded .few);
+      near = omega (arith, loop .inv .order, next-copy .ensures .later, next-copy .ensures .within);
+      far = next-copy .ensures .within;
     }
 
-disk-copy-requires : tie.Need-disk-copy-requires Inv-loop μ-loop
-disk-copy-requires c κs =
+column-at-requires : tie.Need-column-at-requires Inv-loop μ-loop
+column-at-requires c κs =
     let pre = c .before .before .before .before .before .before .before .before .pre in
     let next-copy = c .before .before .before .next-copy in
-    record { long = pre .bounded .long; few = omega (arith, next-copy .ensures .within, pre .bounded .few) }
+    record { long = omega (arith, pre .bounded .long); few = omega (arith, next-copy .ensures .within, pre .bounded .few) }
 
 after-requires-2 : tie.Need-after-requires-2 Inv-loop μ-loop
 after-requires-2 c κs =
     let pre = c .before .before .before .before .before .before .before .before .before .pre in
     let next-copy = c .before .before .before .before .next-copy in
-    record { long = pre .bounds .bounding .long; near = omega (arith, next-copy .ensures .within, pre .bounded .few); far = omega (arith, next-copy .ensures .within, pre .bounded .few) }
+    record { long = pre .bounds .bounding .long; near = next-copy .ensures .within; far = next-copy .ensures .within }
 
 add-if1 : tie.Need-add-if1 Inv-loop μ-loop
 add-if1 c =
-    let disk-copy = c .before .disk-copy in
+    let column-at = c .before .column-at in
     let after2 = c .after2 in
     let pre = c .before .before .before .before .before .before .before .before .before .before .pre in
     let next-copy = c .before .before .before .before .before .next-copy in
     let copy = pre .bounded .cd (next-copy .result) (next-copy .ensures .within) in
     let rest = pre .bounds .bounding .afters (next-copy .result) (next-copy .result) (omega arith) (next-copy .ensures .within) in
-    rw (disk-copy .ensures, after2 .ensures) (omega (arith, copy, rest))
+    rw (column-at .ensures, after2 .ensures) (omega (arith, copy, rest))
 
 add-lesser : tie.Need-add-lesser Inv-loop μ-loop
 add-lesser c =
     let loop = c .before .before .before .before .before .before .before .before .loop in
     let lesser = c .before .before .before .before .lesser in
-    omega (arith, loop .inv .2, lesser .ensures)
+    omega (arith, loop .inv .disk-range, lesser .ensures)
 
-disk-copy-requires-2 : tie.Need-disk-copy-requires-2 Inv-loop μ-loop
-disk-copy-requires-2 c κs =
+column-at-requires-2 : tie.Need-column-at-requires-2 Inv-loop μ-loop
+column-at-requires-2 c κs =
     let pre = c .before .before .before .before .before .before .before .before .before .before .before .pre in
     let next-copy = c .before .before .before .before .before .before .next-copy in
-    record { long = pre .bounded .long; few = omega (arith, next-copy .ensures .within, pre .bounded .few) }
+    record { long = omega (arith, pre .bounded .long); few = omega (arith, next-copy .ensures .within, pre .bounded .few) }
 
 add-lesser-2 : tie.Need-add-lesser-2 Inv-loop μ-loop
 add-lesser-2 c =
-    let disk-copy2 = c .disk-copy2 in
+    let column-at2 = c .column-at2 in
     let loop = c .before .before .before .before .before .before .before .before .before .loop in
     let lesser = c .before .before .before .before .before .lesser in
     let pre = c .before .before .before .before .before .before .before .before .before .before .before .before .pre in
     let next-copy = c .before .before .before .before .before .before .before .next-copy in
-    rw (disk-copy2 .ensures) (omega (arith, loop .inv .2, lesser .ensures, pre .bounded .cd (next-copy .result) (next-copy .ensures .within)))
+    rw (column-at2 .ensures) (omega (arith, loop .inv .disk-range, lesser .ensures, pre .bounded .cd (next-copy .result) (next-copy .ensures .within)))
 
 lesser-requires-2 : tie.Need-lesser-requires-2 Inv-loop μ-loop
 lesser-requires-2 c κs = search needs
@@ -98,7 +104,7 @@ loop-again : tie.Need-loop-again Inv-loop μ-loop
 loop-again c =
     let next-copy = c .before .before .before .before .before .before .before .before .next-copy in
     let lesser2 = c .lesser2 in
-    (omega arith, next-copy .ensures .within, omega (arith, lesser2 .ensures), omega arith)
+    record { order = omega arith; within = next-copy .ensures .within; disk-range = omega (arith, lesser2 .ensures); memory-range = omega arith }
 
 loop-less-2 : tie.Need-loop-less-2 Inv-loop μ-loop
 loop-less-2 c =
@@ -110,7 +116,12 @@ loop-again-2 c =
     let loop = c .before .before .before .before .before .before .before .before .loop in
     let next-copy = c .before .before .before .before .before .before .next-copy in
     let lesser = c .before .before .before .before .lesser in
-    (omega (arith, loop .inv .0, next-copy .ensures .later), next-copy .ensures .within, loop .inv .2, omega (arith, lesser .ensures))
+    record {
+      order = omega (arith, loop .inv .order, next-copy .ensures .later);
+      within = next-copy .ensures .within;
+      disk-range = loop .inv .disk-range;
+      memory-range = omega (arith, lesser .ensures);
+    }
 
 sub-lesser : tie.Need-sub-lesser Inv-loop μ-loop
 sub-lesser c = omega arith
@@ -134,11 +145,11 @@ first-limit-spec =
     copy-time-requires
     lesser-requires
     after-requires
-    disk-copy-requires
+    column-at-requires
     after-requires-2
     add-if1
     add-lesser
-    disk-copy-requires-2
+    column-at-requires-2
     add-lesser-2
     lesser-requires-2
     loop-less

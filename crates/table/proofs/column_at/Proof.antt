@@ -1,8 +1,8 @@
--- `table::disk_recovery` meets its contract. One entry of its column. Assumes nothing.
+-- `table::column_at` meets its contract. One entry of the table. Assumes nothing.
 use Rattle.table.specs.Working.Table.{column}
 use borrow.Author.Needs.{needs}
-use Rattle.table.proofs.disk_recovery.Statement.{statement}
-use Rattle.table.proofs.disk_recovery.Tie as tie
+use Rattle.table.proofs.column_at.Statement.{statement}
+use Rattle.table.proofs.column_at.Tie as tie
 
 add-wide : tie.Need-add-wide
 add-wide c = search needs
@@ -22,6 +22,6 @@ returns c =
     let wide = c .wide in
     wide .ensures .0
 
-pub disk-recovery-spec : {M : Type 1} → statement M
-disk-recovery-spec =
+pub column-at-spec : {M : Type 1} → statement M
+column-at-spec =
     tie.close (tie.spec add-wide mul-wide shared-slice-read-wide wide-requires returns)
