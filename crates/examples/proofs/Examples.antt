@@ -25,7 +25,7 @@ use Rattle.costs.specs.Costs.{vAt, cmAt, cdAt, rdAt, rmAt, verifyPaid, savesPai
 use Rattle.costs.specs.Stretch.{S, chainOf, timeOf}
 use Rattle.costs.specs.Energy.{energyS, energyChain, energyOf}
 use Rattle.pricing.specs.Price.{priceRefusal, priceOf}
-use Rattle.powers.specs.Powers.{outOfRange, passes, badComputing, badSaving, badPowers}
+use Rattle.powers.specs.Powers.{outOfRange, passes, badComputing, savingPasses, badSaving, badPowers}
 use Rattle.planning.specs.Energy.{energyRefusal, PlansByEnergy}
 use Rattle.planning.proofs.ByEnergy.{energy-least}
 use Rattle.state.specs.State.{cleared, fresh, zeroRun, totalOf, brokenValues, badAwaiting, overTotal, brokenPlace, broken, finished}
@@ -72,7 +72,7 @@ unfolding up
     S chainOf timeOf
     energyS energyChain energyOf
     priceRefusal priceOf
-    outOfRange passes badComputing badSaving badPowers energyRefusal
+    outOfRange passes badComputing savingPasses some badSaving badPowers energyRefusal
     cleared fresh zeroRun totalOf brokenValues badAwaiting overTotal brokenPlace broken finished
     afterDone afterPassed backToMemory backToDisk placeAfter nextPlace outOfTurn overWeight stepRefusal stepOf
     startRefusal startOf

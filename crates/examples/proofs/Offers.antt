@@ -36,7 +36,7 @@ use Rattle.pricing.specs.Price.{priceRefusal, priceOf}
 use Rattle.pricing.proofs.Dearer.{booking-holds}
 use Rattle.answers.specs.Promise.{PlansChecked, Free}
 use Rattle.planning.specs.Promise.{Plans}
-use Rattle.powers.specs.Powers.{outOfRange, passes, badComputing, badSaving, badPowers}
+use Rattle.powers.specs.Powers.{outOfRange, passes, badComputing, savingPasses, badSaving, badPowers}
 use Rattle.planning.specs.Energy.{energyRefusal}
 use Rattle.answers.proofs.Answers.{plan-computed, slow-computed}
 use Rattle.planning.proofs.Dearer.{plan-raised}
@@ -161,7 +161,7 @@ unfolding up
     energyS energyChain
     costOf
     priceRefusal priceOf
-    outOfRange passes badComputing badSaving badPowers energyRefusal
+    outOfRange passes badComputing savingPasses some badSaving badPowers energyRefusal
     headerA platformA weightsA sheetA
     weightsBefore costsA twoTasks raisedPlatform raisedA raisedTime allRaisedA failingA nearLimit rated oneTaskA
 facts =

@@ -1,17 +1,20 @@
 -- Check 29: what a test of a power has found, the first refusal of a plan by energy, and what it means that 29 does not hold. Assumes nothing.
+use native.Mathlib.Omega.{arith}
+use lib.ListN.{getD}
 use Prim.Native.Nat.{ℕ, _*_, _≤_, _^_}
 use mathlib.Core.Path.{_≡_, sym, _∙_}
 use mathlib.Core.Bool.{Bool, false}
 use mathlib.Core.Logic.{_↔_}
+use Rattle.lists.specs.Lists.{some}
 use borrow.Author.Tests.{le-ltb, ltb-false}
 use lib.Dec.{ltb}
 use Rattle.units.specs.Limits.{costLimit}
-use Rattle.lists.proofs.Lists.{or-fails}
+use Rattle.lists.proofs.Lists.{or-fails, some-fails}
 use Rattle.units.specs.Limits.{taskLimit}
 use Rattle.job.specs.Job.{total}
 use Rattle.job.specs.declared.Job.{Job}
 use Rattle.costs.specs.declared.Powers.{Powers}
-use Rattle.powers.specs.Powers.{leastPower, mostPower, outOfRange, passes, badComputing, badSaving, badPowers, PowersFit}
+use Rattle.powers.specs.Powers.{leastPower, mostPower, outOfRange, passes, badComputing, badSaving, badPowers, PowersFit, savingCosts, savingCount, savingPasses}
 use Rattle.powers.specs.Working.Ready.{ReadyForProduct}
 
 -- a power in its range
@@ -35,14 +38,17 @@ module _ (power : ℕ) where
   unfolding passes
   product-fits amount h = le-ltb costLimit (power * amount) h
 
--- the product of a power that was found in its range can be worked out
+-- a power that was found in its range, and its product, which can be worked out
+pub range-most : {power : ℕ} {r : Bool} → r ≡ outOfRange power → r ≡ false → power ≤ mostPower
+range-most {power} e h = range-passed power (sym e ∙ h) .1
+
 pub product-ready : {power amount : ℕ} {r : Bool} → r ≡ outOfRange power → r ≡ false → amount ≤ taskLimit * 2 ^ 32 → ReadyForProduct power amount
-product-ready {power} e h k = record { power-range = range-passed power (sym e ∙ h) .1; amount-range = k }
+product-ready e h k = record { power-range = range-most e h; amount-range = k }
 
 -- 29 does not hold exactly where both powers are 1 to 16 and no product passes 2^30
 module _ (powers : Powers) (job : Job) where
   passed : badPowers powers job ≡ false → PowersFit powers job
-  unfolding badPowers badComputing badSaving
+  unfolding badPowers badComputing badSaving savingPasses some
   passed e =
       let c : ℕ = powers .computing in
       let s : ℕ = powers .saving in
@@ -50,9 +56,7 @@ module _ (powers : Powers) (job : Job) where
       let computing = or-fails (outOfRange c) _ (all .0) in
       let work = or-fails (passes c (total (job .weights) (job .tasks))) _ (computing .1) in
       let saving = or-fails (outOfRange s) _ (all .1) in
-      let cd = or-fails (passes s (job .platform .cd)) _ (saving .1) in
-      let cm = or-fails (passes s (job .platform .cm)) _ (cd .1) in
-      let rd = or-fails (passes s (job .platform .rd)) _ (cm .1) in
+      let product = some-fails savingCount (λ i. passes s (getD (savingCosts (job .platform)) i 0)) (saving .1) in
       record {
         computing-least = range-passed c (computing .0) .0;
         computing-most = range-passed c (computing .0) .1;
@@ -61,15 +65,15 @@ module _ (powers : Powers) (job : Job) where
         products = record {
           total = product-passed c _ (work .0);
           v = product-passed c _ (work .1);
-          cd = product-passed s _ (cd .0);
-          cm = product-passed s _ (cm .0);
-          rd = product-passed s _ (rd .0);
-          rm = product-passed s _ (rd .1);
+          cd = product-passed s _ (product 0 (omega arith));
+          cm = product-passed s _ (product 1 (omega arith));
+          rd = product-passed s _ (product 2 (omega arith));
+          rm = product-passed s _ (product 3 (omega arith));
         };
       }
 
   fits : PowersFit powers job → badPowers powers job ≡ false
-  unfolding badPowers badComputing badSaving
+  unfolding badPowers badComputing badSaving savingPasses some
   fits f =
       let c : ℕ = powers .computing in
       let s : ℕ = powers .saving in

@@ -1,9 +1,13 @@
 -- Request 106: the powers that a plan by energy takes, and 29.
 use Prim.Native.Nat.{ℕ, _*_, _≤_}
 use mathlib.Core.Bool.{Bool, _||_}
+use mathlib.Core.List.{List, [], _∷_}
 use lib.Dec.{ltb}
+use lib.ListN.{getD}
 use Rattle.units.specs.Limits.{costLimit}
+use Rattle.lists.specs.Lists.{some}
 use Rattle.job.specs.Job.{total}
+use Rattle.job.specs.declared.Platform.{Platform}
 use Rattle.job.specs.declared.Job.{Job}
 use Rattle.costs.specs.Energy.{ProductsFit}
 use Rattle.costs.specs.declared.Powers.{Powers}
@@ -28,12 +32,20 @@ unfoldable pub badComputing : ℕ → Job → Bool
 badComputing power job =
     outOfRange power || (passes power (total (job .weights) (job .tasks)) || passes power (job .platform .v))
 
--- the second power: its products are those of C_D, C_M, R_D and R_M
+-- the costs of saving and recovering: C_D, C_M, R_D and R_M
+abbrev pub savingCosts : Platform → List ℕ
+savingCosts p = p .cd ∷ p .cm ∷ p .rd ∷ p .rm ∷ []
+
+abbrev pub savingCount : ℕ
+savingCount = 4
+
+-- a product of one of them passes 2^30
+unfoldable pub savingPasses : ℕ → List ℕ → Bool
+savingPasses power costs = some savingCount (λ i. passes power (getD costs i 0))
+
+-- the second power: its products are theirs
 unfoldable pub badSaving : ℕ → Job → Bool
-badSaving power job =
-    outOfRange power
-    || (passes power (job .platform .cd)
-    || (passes power (job .platform .cm) || (passes power (job .platform .rd) || passes power (job .platform .rm))))
+badSaving power job = outOfRange power || savingPasses power (savingCosts (job .platform))
 
 -- 29
 unfoldable pub badPowers : Powers → Job → Bool

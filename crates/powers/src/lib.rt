@@ -2,7 +2,7 @@
 ghost use mathlib.Core.Path.{_≡_};
 ghost use Prim.Native.Nat.{_≤_};
 ghost use Rattle.units.specs.Limits.{taskLimit};
-ghost use Rattle.powers.specs.Powers.{outOfRange, passes, badComputing, badSaving, badPowers};
+ghost use Rattle.powers.specs.Powers.{mostPower, outOfRange, passes, badComputing, savingPasses, badSaving, badPowers};
 ghost use Rattle.powers.specs.Working.Ready.{ReadyForProduct};
 use costs::Powers;
 use job::Job;
@@ -15,6 +15,8 @@ const MOST_POWER: u64 = 16;
 
 // The most that a product of a power may be: what a cost or the total weight may be by itself.
 const PRODUCT_LIMIT: u64 = 1 << 30;
+
+const SAVING_COSTS: usize = 4;
 
 fn out_of_range(power: u64) -> bool
     ensures { λ r. ⌜ r ≡ outOfRange power ⌝ }
@@ -45,6 +47,21 @@ fn bad_computing(power: u64, job: Job) -> bool
     passes(power, wide(job.platform.v))
 }
 
+// A product of one of the costs of saving and recovering passes 2^30. The power is in range.
+fn saving_passes(power: u64, costs: [u32; SAVING_COSTS]) -> bool
+    requires { ⌜ power ≤ mostPower ⌝ }
+    ensures { λ r. ⌜ r ≡ savingPasses power costs ⌝ }
+{
+    let mut i: usize = 0;
+    while i < SAVING_COSTS {
+        if passes(power, wide(costs[i])) {
+            return true;
+        }
+        i += 1;
+    }
+    false
+}
+
 // The second power, with C_D, C_M, R_D and R_M.
 fn bad_saving(power: u64, job: Job) -> bool
     ensures { λ r. ⌜ r ≡ badSaving power job ⌝ }
@@ -52,16 +69,8 @@ fn bad_saving(power: u64, job: Job) -> bool
     if out_of_range(power) {
         return true;
     }
-    if passes(power, wide(job.platform.cd)) {
-        return true;
-    }
-    if passes(power, wide(job.platform.cm)) {
-        return true;
-    }
-    if passes(power, wide(job.platform.rd)) {
-        return true;
-    }
-    passes(power, wide(job.platform.rm))
+    let p = job.platform;
+    saving_passes(power, [p.cd, p.cm, p.rd, p.rm])
 }
 
 // 29: a power or a product outside its range.

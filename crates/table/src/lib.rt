@@ -4,7 +4,7 @@ ghost use mathlib.Core.Path.{_≡_};
 ghost use Prim.Native.Nat.{_+_, _<_, _≤_};
 ghost use lib.ListN.{length, take, drop, set};
 ghost use Rattle.units.specs.Limits.{positions};
-ghost use Rattle.table.specs.Working.Table.{half, firstStart, column, entryOf, putPair, IsPair, InTable, PairFits, ReadyForPair, InColumn, ReadyForColumn, ReadyForRecoveries, RecoveriesIn, ReadyForFirsts, FirstIs, FirstsPut};
+ghost use Rattle.table.specs.Working.Table.{Widened, firstStart, column, entryOf, putPair, IsPair, InTable, PairFits, ReadyForPair, InColumn, ReadyForColumn, ReadyForRecoveries, RecoveriesIn, ReadyForFirsts, FirstIs, FirstsPut};
 use chain::Factors;
 use chain::Recoveries;
 use units::POSITIONS;
@@ -34,7 +34,7 @@ const PAIRS: usize = POSITIONS * (POSITIONS - 1) / 2;
 pub const TABLE_LENGTH: usize = PAIRS_START + PAIR_ENTRIES * PAIRS;
 
 pub fn wide(x: u32) -> u64
-    ensures { λ r. ⌜ (r ≡ x) × (r < half) ⌝ }
+    ensures { λ r. ⌜ Widened x r ⌝ }
 {
     x as u64
 }

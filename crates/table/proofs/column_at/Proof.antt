@@ -20,7 +20,7 @@ returns : tie.Need-returns
 unfolding column
 returns c =
     let wide = c .wide in
-    wide .ensures .0
+    wide .ensures .value
 
 pub column-at-spec : {M : Type 1} → statement M
 column-at-spec =

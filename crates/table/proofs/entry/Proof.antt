@@ -72,7 +72,7 @@ returns c =
     let wide3 = c .before .before .wide3 in
     let wide4 = c .wide4 in
     let pair-index = c .before .before .before .before .before .before .before .before .pair-index in
-    rw (wide .ensures .0, wide2 .ensures .0, wide3 .ensures .0, wide4 .ensures .0, pair-index .ensures .value)
+    rw (wide .ensures .value, wide2 .ensures .value, wide3 .ensures .value, wide4 .ensures .value, pair-index .ensures .value)
 
 pub entry-spec : {M : Type 1} → statement M
 entry-spec =

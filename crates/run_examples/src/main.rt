@@ -1,4 +1,4 @@
-// Runs the examples of document 01 that are not starred, and prints what each gives; the starred ones are proved (`starred-examples`).
+// Runs the examples of document 01 that are not starred, and prints what each gives; the starred ones are proved (`starred-examples`, in the crate `examples`).
 ghost use Rattle.io.specs.Counts.{Counts};
 use libc::STDOUT_FILENO;
 use sheet::SHEET_ROOM;
