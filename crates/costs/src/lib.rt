@@ -1,8 +1,10 @@
 // What a job puts into a chain: costs at each position, what a passed mark pays, and the factors of each stretch.
+// Each function of a position asks for a position, 0 to the most tasks, so that costs kept by task would be places of an array.
 ghost use mathlib.Core.Path.{_≡_};
 ghost use mathlib.Core.Bool.{cond};
 ghost use lib.Dec.{eqb};
 ghost use Prim.Native.Nat.{_≤_};
+ghost use Rattle.units.specs.Limits.{taskLimit};
 ghost use Rattle.costs.specs.Costs.{vAt, cmAt, cdAt, rdAt, rmAt, verifyPaid, savesPaid};
 ghost use Rattle.costs.specs.Energy.{plain};
 ghost use Rattle.costs.specs.Working.Costs.{CostIs};
@@ -16,6 +18,7 @@ use units::EXPONENT_LIMIT;
 
 // V at v.
 pub fn v_at(job: Job, v: usize) -> u64
+    requires { ⌜ v ≤ taskLimit ⌝ }
     ensures { λ r. ⌜ CostIs 1 (vAt job v) r ⌝ }
 {
     job.platform.v as u64
@@ -23,6 +26,7 @@ pub fn v_at(job: Job, v: usize) -> u64
 
 // C_M at v.
 pub fn cm_at(job: Job, v: usize) -> u64
+    requires { ⌜ v ≤ taskLimit ⌝ }
     ensures { λ r. ⌜ CostIs 1 (cmAt job v) r ⌝ }
 {
     job.platform.cm as u64
@@ -30,6 +34,7 @@ pub fn cm_at(job: Job, v: usize) -> u64
 
 // C_D at v.
 pub fn cd_at(job: Job, v: usize) -> u64
+    requires { ⌜ v ≤ taskLimit ⌝ }
     ensures { λ r. ⌜ CostIs 1 (cdAt job v) r ⌝ }
 {
     job.platform.cd as u64
@@ -47,6 +52,7 @@ fn unless_start(cost: u32, position: usize) -> u64
 
 // R_D' where d is the last disk copy: its image is read, and copied back into memory.
 pub fn rd_at(job: Job, d: usize) -> u64
+    requires { ⌜ d ≤ taskLimit ⌝ }
     ensures { λ r. ⌜ CostIs 2 (rdAt job d) r ⌝ }
 {
     unless_start(job.platform.rd, d) + unless_start(job.platform.rm, d)
@@ -54,6 +60,7 @@ pub fn rd_at(job: Job, d: usize) -> u64
 
 // R_M' where m is the last memory copy.
 pub fn rm_at(job: Job, m: usize) -> u64
+    requires { ⌜ m ≤ taskLimit ⌝ }
     ensures { λ r. ⌜ CostIs 1 (rmAt job m) r ⌝ }
 {
     unless_start(job.platform.rm, m)
@@ -71,6 +78,7 @@ fn paid(pays: bool, cost: u64) -> u64
 
 // What a mark passed at v pays for its verification.
 pub fn verify_paid(job: Job, mark: u8, v: usize) -> u64
+    requires { ⌜ v ≤ taskLimit ⌝ }
     ensures { λ r. ⌜ r ≡ verifyPaid job mark v ⌝ }
 {
     let pays = payments(mark);
@@ -79,6 +87,7 @@ pub fn verify_paid(job: Job, mark: u8, v: usize) -> u64
 
 // What a mark passed at v pays for its copies.
 pub fn saves_paid(job: Job, mark: u8, v: usize) -> u64
+    requires { ⌜ v ≤ taskLimit ⌝ }
     ensures { λ r. ⌜ r ≡ savesPaid job mark v ⌝ }
 {
     let pays = payments(mark);

@@ -75,7 +75,7 @@ pub fn e_mem(job: Job, d1: usize, m2: usize) -> u64
 // E_verif(d1, m1, m1) = 0, and
 // (1)  E_verif(d1, m1, v2) = min { E_verif(d1, m1, v1) + E(d1, m1, v1, v2) }, over m1 <= v1 < v2.
 pub fn e_verif(job: Job, d1: usize, m1: usize, mem: u64, v2: usize) -> u64
-    requires { ⌜ ReadyForVerification job m1 mem v2 ⌝ }
+    requires { ⌜ ReadyForVerification job d1 m1 mem v2 ⌝ }
     ensures { λ r. ⌜ VerificationEquation (chainOf job) none d1 m1 mem v2 r ⌝ }
 {
     if v2 == m1 {
@@ -111,7 +111,7 @@ fn growths(job: Job, v1: usize, v2: usize) -> Factors
 // first part is f.work. All is rounded as document 01 says, each part up. f.both is 0 where the stretch is not allowed. R_D and R_M are what going back to d1 and to
 // m1 costs: R_D has the refill of memory in it, and both are 0 at the start.
 pub fn e(job: Job, d1: usize, m1: usize, mem: u64, v1: usize, v2: usize) -> u64
-    requires { ⌜ ReadyForE job m1 mem v1 v2 ⌝ }
+    requires { ⌜ ReadyForE job d1 m1 mem v1 v2 ⌝ }
     ensures { λ r. ⌜ (r ≡ E (chainOf job) none d1 m1 mem v1 v2) × (r ≤ stretchCap) ⌝ }
 {
     let f = growths(job, v1, v2);

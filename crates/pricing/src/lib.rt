@@ -36,7 +36,7 @@ pub struct Progress {
 
 // Q(v) from what is carried to the marked position v.
 fn arrival(job: Job, s: Progress, v: usize) -> u64
-    requires { ⌜ ReadyForArrival job s ⌝ }
+    requires { ⌜ ReadyForArrival job s v ⌝ }
     ensures { λ r. ⌜ Arrived job s v r ⌝ }
 {
     let factors = stretch_factors(job.platform, s.weight, v_at(job, v));
@@ -50,7 +50,7 @@ fn arrival(job: Job, s: Progress, v: usize) -> u64
 
 // What is carried past the mark at v.
 fn past_mark(job: Job, s: Progress, v: usize, mark: u8) -> Progress
-    requires { ⌜ ReadyForMark job s mark ⌝ }
+    requires { ⌜ ReadyForMark job s v mark ⌝ }
     ensures { λ r. ⌜ Passed job s v mark r ⌝ }
 {
     let pays = payments(mark);

@@ -8,6 +8,7 @@ use borrow.Author.Tests.{ltb-false, eqb-true, eq-eqb, ne-eqb, not-false}
 use native.Mathlib.Omega.{arith}
 use lib.Dec.{ltb, eqb}
 use lib.Seq.{getD-take}
+use Rattle.units.specs.Limits.{taskLimit}
 use Rattle.lists.proofs.Lists.{or-fails}
 use Rattle.refusals.specs.Refusals.{first, has, distinct, Numbered}
 use Rattle.refusals.proofs.Refusals.{first-clear}
@@ -79,6 +80,10 @@ place-passed job f place right =
       kept = eqb-true _ _ (not-false (eqb (place .sums .kept) weight) (after-kept .0));
       sums = ltb-false totalLimit (totalOf (place .sums)) (after-kept .1);
     }
+
+-- its position is one of a task count that passed check 3
+pub position-range : {run : Run} → SoundRun run → run .place .position ≤ taskLimit
+position-range sound = omega (arith, sound .position, sound .values .few-tasks)
 
 -- a state that 21 accepts
 module _ (run : Run) (right : broken run ≡ false) where

@@ -33,6 +33,7 @@ pub record ReadyForLastMemory (job : Job) (d1 m2 : ℕ) : Type 0 where
 
 pub record ReadyForLastVerification (job : Job) (d1 m1 mem v2 : ℕ) : Type 0 where
   pub sound : Sound job
+  pub copies : d1 ≤ m1
   pub start : m1 < v2
   pub end : v2 ≤ job .tasks
   pub time : mem ≤ none

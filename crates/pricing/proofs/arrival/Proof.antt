@@ -1,5 +1,6 @@
 -- `pricing::arrival` meets its contract. An allowed stretch has growth sums within the caps, and what is carried is below the limit, so that no product wraps.
 -- Assumes nothing.
+use native.Mathlib.Nat.{le-trans}
 use native.Mathlib.Omega.{arith}
 use Rattle.costs.proofs.Ranges.{vAt-range, rdAt-range, rmAt-range, factors-bounded}
 use Rattle.costs.specs.Working.Factors.{ReadyForFactors}
@@ -9,7 +10,7 @@ use Rattle.pricing.proofs.arrival.Statement.{statement}
 use Rattle.pricing.proofs.arrival.Tie as tie
 
 v-at-requires : tie.Need-v-at-requires
-v-at-requires c κs = search needs
+v-at-requires c κs = c .pre .carried .position
 
 stretch-factors-requires : tie.Need-stretch-factors-requires
 stretch-factors-requires c κs =
@@ -22,13 +23,17 @@ stretch-factors-requires c κs =
     }
 
 rd-at-requires : tie.Need-rd-at-requires
-rd-at-requires c κs = search needs
+rd-at-requires c κs =
+    let pre = c .before .before .pre in
+    le-trans (pre .carried .disk) (pre .carried .position)
 
 add-disk : tie.Need-add-disk
 add-disk c = search needs
 
 rm-at-requires : tie.Need-rm-at-requires
-rm-at-requires c κs = search needs
+rm-at-requires c κs =
+    let pre = c .before .before .before .before .pre in
+    le-trans (pre .carried .memory) (pre .carried .position)
 
 stretch-time-requires : tie.Need-stretch-time-requires
 stretch-time-requires c κs =

@@ -25,7 +25,7 @@ arrival-requires c κs =
     let if1 = c .if1 in
     let pre = c .before .before .before .pre in
     let v = ap (λ (x : Pays). x .v) (sym (payments .ensures)) ∙ not-false _ (if1 .left) in
-    record { costs = pre .costs; progress = pre .progress; allowed = pre .allowed (pays-marked _ v) }
+    record { costs = pre .costs; carried = pre .carried; progress = pre .progress; allowed = pre .allowed (pays-marked _ v) }
 
 returns-2 : tie.Need-returns-2
 returns-2 c =
@@ -45,7 +45,9 @@ add-mt : tie.Need-add-mt
 add-mt c = search needs
 
 cm-at-requires : tie.Need-cm-at-requires
-cm-at-requires c κs = search needs
+cm-at-requires c κs =
+    let pre = c .before .before .before .before .before .before .before .pre in
+    pre .carried .position
 
 add-mt-2 : tie.Need-add-mt-2
 add-mt-2 c = search needs
@@ -71,7 +73,9 @@ add-t10 : tie.Need-add-t10
 add-t10 c = search needs
 
 cd-at-requires : tie.Need-cd-at-requires
-cd-at-requires c κs = search needs
+cd-at-requires c κs =
+    let pre = c .before .before .before .before .before .before .before .before .before .before .before .pre in
+    pre .carried .position
 
 add-t11 : tie.Need-add-t11
 add-t11 c = search needs

@@ -6,7 +6,7 @@ use mathlib.Core.Path.{_≡_, sym}
 use native.Mathlib.Omega.{arith}
 use Rattle.units.specs.Limits.{none}
 use Rattle.marks.proofs.Stretches.{marks-passed, marks-length, marks-range, marks-end}
-use Rattle.pricing.proofs.Progresses.{Progresses, progress-start, progress-past, progress-allowed, progress-slow, progress-time, weight-range}
+use Rattle.pricing.proofs.Progresses.{Progresses, progress-start, progress-carried, progress-past, progress-allowed, progress-slow, progress-time, weight-range}
 use Rattle.pricing.proofs.setting_time.Statement.{statement}
 use Rattle.pricing.proofs.setting_time.Tie as tie
 use borrow.Author.Needs.{needs}
@@ -56,6 +56,7 @@ past-mark-requires c κs =
     let passed = marks-passed _ _ (pre .marks) in
     record {
       costs = pre .sound .costs;
+      carried = progress-carried _ _ _ _ (loop .inv .1) (pre .sound) (loop-test .taken);
       progress = record {
         weight = weight-range _ _ _ _ (loop .inv .1) (pre .sound) (loop-test .taken);
         time = loop .inv .2;

@@ -4,7 +4,7 @@ use Prim.Native.Nat.{ℕ, _+_, _≤_, _<_, _^_}
 use mathlib.Core.Path.{_≡_}
 use mathlib.Core.Bool.{true, cond}
 use mathlib.Core.List.{List}
-use Rattle.units.specs.Limits.{costLimit, none}
+use Rattle.units.specs.Limits.{costLimit, none, taskLimit}
 use Rattle.refusals.specs.Refusals.{first}
 use Rattle.chain.specs.Time.{disk}
 use Rattle.chain.specs.Working.Factors.{stretchOf}
@@ -45,6 +45,12 @@ pub record InTime (s : Progress) : Type 0 where
   pub weight : s .weight ≤ costLimit
   pub time : s .dt + s .mt + s .q < none
 
+-- v is a position, and the copies carried to it lie no later, so that each has its costs
+pub record CarriedTo (s : Progress) (v : ℕ) : Type 0 where
+  pub position : v ≤ taskLimit
+  pub memory : s .m ≤ v
+  pub disk : s .d ≤ v
+
 -- the most that Q(v) may be, and the three times together
 abbrev pub arrivalCap : ℕ
 arrivalCap = 2 ^ 44
@@ -52,8 +58,9 @@ arrivalCap = 2 ^ 44
 abbrev pub progressCap : ℕ
 progressCap = 2 ^ 46
 
-pub record ReadyForArrival (job : Job) (s : Progress) : Type 0 where
+pub record ReadyForArrival (job : Job) (s : Progress) (v : ℕ) : Type 0 where
   pub costs : CostsBounded (job .platform)
+  pub carried : CarriedTo s v
   pub progress : InTime s
   pub allowed : isAllowed (job .platform) (s .weight) ≡ true
 
@@ -61,8 +68,9 @@ pub record Arrived (job : Job) (s : Progress) (v r : ℕ) : Type 0 where
   pub value : r ≡ arrivalOf job s v
   pub cap : r ≤ arrivalCap
 
-pub record ReadyForMark (job : Job) (s : Progress) (mark : ℕ) : Type 0 where
+pub record ReadyForMark (job : Job) (s : Progress) (v mark : ℕ) : Type 0 where
   pub costs : CostsBounded (job .platform)
+  pub carried : CarriedTo s v
   pub progress : InTime s
   pub allowed : 0 < mark → isAllowed (job .platform) (s .weight) ≡ true
   pub mark-range : mark ≤ disk

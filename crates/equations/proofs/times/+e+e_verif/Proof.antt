@@ -99,7 +99,9 @@ e-sub-rounded-up t c =
     ready .factors .both
 
 e-rd-at-requires : (t : ℕ) → e-lts.Need-rd-at-requires (e-calls t) (e-at t) e.Post
-e-rd-at-requires t c κs = tt
+e-rd-at-requires t c κs =
+    let pre = c .before .before .before .before .pre .1 in
+    omega (arith, pre .copies, pre .start, pre .stretch .order, pre .stretch .end, pre .stretch .sound .few-tasks)
 
 e-add-rounded-up : (t : ℕ) → e-lts.Need-add-rounded-up (e-calls t) (e-at t) e.Post
 e-add-rounded-up t c =
@@ -160,6 +162,7 @@ e-e-verif-requires t c κs =
       omega (arith, pre .0, pre .1 .stretch .order),
       record {
         sound = pre .1 .stretch .sound;
+        copies = pre .1 .copies;
         start = pre .1 .start;
         end = omega (arith, pre .1 .stretch .order, pre .1 .stretch .end);
         time = pre .1 .time;
@@ -224,7 +227,9 @@ e-sub-rounded-up-3 t c =
     ready .factors .silent
 
 e-rm-at-requires : (t : ℕ) → e-lts.Need-rm-at-requires (e-calls t) (e-at t) e.Post
-e-rm-at-requires t c κs = tt
+e-rm-at-requires t c κs =
+    let pre = c .before .before .before .before .before .before .before .before .before .before .before .pre .1 in
+    omega (arith, pre .start, pre .stretch .order, pre .stretch .end, pre .stretch .sound .few-tasks)
 
 e-mul-rounded-up-3 : (t : ℕ) → e-lts.Need-mul-rounded-up-3 (e-calls t) (e-at t) e.Post
 e-mul-rounded-up-3 t c =
@@ -313,7 +318,7 @@ e-verif-e-verif-requires t c κs =
     let pre = c .before .before .before .pre in
     let inv = c .before .loop .inv in (
       omega (arith, pre .0),
-      record { sound = pre .1 .sound; start = inv .0; end = omega (arith, inv .1, pre .1 .end); time = pre .1 .time },
+      record { sound = pre .1 .sound; copies = pre .1 .copies; start = inv .0; end = omega (arith, inv .1, pre .1 .end); time = pre .1 .time },
     )
 
 e-verif-e-requires : (t : ℕ) → e-verif-lts.Need-e-requires (e-verif-calls t) (e-verif-at t) e-verif.Post e-verif-Inv-loop e-verif-μ-loop
@@ -321,7 +326,12 @@ e-verif-e-requires t c κs =
     let pre = c .before .before .before .before .pre in
     let inv = c .before .before .loop .inv in (
       omega (arith, pre .0),
-      record { stretch = record { sound = pre .1 .sound; order = omega arith; end = pre .1 .end }; start = inv .0; time = pre .1 .time },
+      record {
+        stretch = record { sound = pre .1 .sound; order = omega arith; end = pre .1 .end };
+        copies = pre .1 .copies;
+        start = inv .0;
+        time = pre .1 .time;
+      },
     )
 
 e-verif-add-min : (t : ℕ) → e-verif-lts.Need-add-min (e-verif-calls t) (e-verif-at t) e-verif.Post e-verif-Inv-loop e-verif-μ-loop

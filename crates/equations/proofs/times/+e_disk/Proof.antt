@@ -83,7 +83,9 @@ e-disk-add-min t c =
     )
 
 e-disk-cd-at-requires : (t : ℕ) → e-disk-lts.Need-cd-at-requires (e-disk-calls t) (e-disk-at t) e-disk.Post e-disk-Inv-loop e-disk-μ-loop
-e-disk-cd-at-requires t c κs = tt
+e-disk-cd-at-requires t c κs =
+    let pre = c .before .before .before .before .before .pre .1 in
+    omega (arith, pre .end, pre .sound .few-tasks)
 
 e-disk-add-min-2 : (t : ℕ) → e-disk-lts.Need-add-min-2 (e-disk-calls t) (e-disk-at t) e-disk.Post e-disk-Inv-loop e-disk-μ-loop
 e-disk-add-min-2 t c =

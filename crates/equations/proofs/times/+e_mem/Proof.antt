@@ -73,6 +73,7 @@ e-mem-e-verif-requires t c κs =
     let loop = c .before .before .loop in
     record {
       sound = pre .sound;
+      copies = loop .inv .0;
       start = loop .inv .1;
       end = pre .end;
       time = omega (arith, c .e-mem .ensures .value, memory-cap (chainOf (args .job)) (args .d1) (loop .m1));
@@ -91,7 +92,9 @@ e-mem-add-min t c =
     )
 
 e-mem-cm-at-requires : (t : ℕ) → e-mem-lts.Need-cm-at-requires (e-mem-calls t) (e-mem-at t) e-mem.Post e-mem-Inv-loop e-mem-μ-loop
-e-mem-cm-at-requires t c κs = tt
+e-mem-cm-at-requires t c κs =
+    let pre = c .before .before .before .before .before .pre .1 in
+    omega (arith, pre .end, pre .sound .few-tasks)
 
 e-mem-add-min-2 : (t : ℕ) → e-mem-lts.Need-add-min-2 (e-mem-calls t) (e-mem-at t) e-mem.Post e-mem-Inv-loop e-mem-μ-loop
 e-mem-add-min-2 t c =

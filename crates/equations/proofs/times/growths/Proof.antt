@@ -25,7 +25,9 @@ sub-w c =
     rw (c .weight-to2 .ensures .0, c .before .weight-to .ensures .0) (total-mono (args .job .weights) (args .v1) (args .v2) (omega (arith, pre .order)))
 
 v-at-requires : tie.Need-v-at-requires
-v-at-requires c κs = search needs
+v-at-requires c κs =
+    let pre = c .before .before .before .pre in
+    omega (arith, pre .end, pre .sound .few-tasks)
 
 stretch-factors-requires : tie.Need-stretch-factors-requires
 unfolding between

@@ -43,7 +43,9 @@ add-offer c =
     )
 
 cd-at-requires : tie.Need-cd-at-requires Inv-loop μ-loop
-cd-at-requires c κs = tt
+cd-at-requires c κs =
+    let pre = c .before .before .before .before .pre in
+    omega (arith, pre .end, pre .sound .few-tasks)
 
 add-offer-2 : tie.Need-add-offer-2 Inv-loop μ-loop
 add-offer-2 c =

@@ -32,6 +32,7 @@ e-verif-requires c κs =
     let loop = c .before .before .loop in
     record {
       sound = pre .sound;
+      copies = loop .inv .0;
       start = loop .inv .1;
       end = pre .end;
       time = omega (arith, c .e-mem .ensures .value, memory-cap (chainOf (args .job)) (args .d1) (loop .m1));
@@ -50,7 +51,9 @@ add-offer c =
     )
 
 cm-at-requires : tie.Need-cm-at-requires Inv-loop μ-loop
-cm-at-requires c κs = tt
+cm-at-requires c κs =
+    let pre = c .before .before .before .before .pre in
+    omega (arith, pre .end, pre .sound .few-tasks)
 
 add-offer-2 : tie.Need-add-offer-2 Inv-loop μ-loop
 add-offer-2 c =

@@ -23,13 +23,14 @@ loop-holds c = (omega arith, omega (arith, c .pre .start), sought-first _ _ _ _)
 e-verif-requires : tie.Need-e-verif-requires Inv-loop μ-loop
 e-verif-requires c κs =
     let pre = c .before .before .pre in
-    record { sound = pre .sound; start = c .before .loop .inv .0; end = omega (arith, pre .end); time = pre .time }
+    record { sound = pre .sound; copies = pre .copies; start = c .before .loop .inv .0; end = omega (arith, pre .end); time = pre .time }
 
 e-requires : tie.Need-e-requires Inv-loop μ-loop
 e-requires c κs =
     let pre = c .before .before .before .pre in
     record {
       stretch = record { sound = pre .sound; order = omega arith; end = pre .end };
+      copies = pre .copies;
       start = c .before .before .loop .inv .0;
       time = pre .time;
     }

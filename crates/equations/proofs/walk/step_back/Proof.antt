@@ -21,6 +21,7 @@ last-verification-requires c κs =
     let on = pre .on-way in
     record {
       sound = pre .sound;
+      copies = on .d-m;
       start = on .m-v;
       end = pre .end;
       time = omega (arith, c .e-mem .ensures .value, memory-cap (chainOf (args .job)) (args .w .d) (args .w .m));

@@ -1,22 +1,21 @@
 -- `following::events::after_failed` meets its contract. The last memory copy lies no later than the position, so the weight up to it is kept, and what is kept after it moves. Assumes nothing.
-use Prim.Native.Nat.{_≤_}
 use native.Mathlib.Nat.{le-trans}
 use native.Mathlib.Omega.{arith}
 use Rattle.chain.proofs.Equations.{last-le}
-use Rattle.units.specs.Limits.{taskLimit}
 use Rattle.job.specs.Job.{between}
 use Rattle.job.proofs.Weights.{total-mono}
 use Rattle.state.specs.State.{totalOf}
+use Rattle.state.proofs.Soundness.{position-range}
 use Rattle.following.specs.Run.{backToMemory}
 use borrow.Author.Needs.{needs}
 use Rattle.following.proofs.events.after_failed.Statement.{statement}
 use Rattle.following.proofs.events.after_failed.Tie as tie
 
 last-copy-requires : tie.Need-last-copy-requires
-last-copy-requires c κs = search needs
+last-copy-requires c κs = position-range (c .pre)
 
 v-at-requires : tie.Need-v-at-requires
-v-at-requires c κs = search needs
+v-at-requires c κs = position-range (c .before .before .pre)
 
 add-sums : tie.Need-add-sums
 unfolding totalOf
@@ -26,7 +25,10 @@ add-sums c =
     omega (arith, v-at .ensures .fits, pre .sums)
 
 rm-at-requires : tie.Need-rm-at-requires
-rm-at-requires c κs = search needs
+rm-at-requires c κs =
+    let pre = c .before .before .before .before .pre in
+    let last-copy = c .before .before .before .last-copy in
+    rw (last-copy .ensures) (le-trans (last-le _ _ _) (position-range pre))
 
 add-sums-2 : tie.Need-add-sums-2
 unfolding totalOf
@@ -38,12 +40,10 @@ add-sums-2 c =
 back-to-requires : tie.Need-back-to-requires
 unfolding totalOf
 back-to-requires c κs =
-    let args = c .before .before .before .before .before .before .args in
     let pre = c .before .before .before .before .before .before .pre in
     let last-copy = c .before .before .before .before .before .last-copy in
-    let within : args .run .place .position ≤ taskLimit = omega (arith, pre .position, pre .values .few-tasks) in
     record {
-      within = rw (last-copy .ensures) (le-trans (last-le _ _ _) within);
+      within = rw (last-copy .ensures) (le-trans (last-le _ _ _) (position-range pre));
       kept = rw (pre .kept, last-copy .ensures) (total-mono _ _ _ (last-le _ _ _));
       fits = omega (arith, pre .sums);
     }

@@ -4,16 +4,17 @@ use native.Mathlib.Omega.{arith}
 use Rattle.units.specs.Limits.{costLimit}
 use Rattle.costs.proofs.Ranges.{verifyPaid-range, savesPaid-range}
 use Rattle.state.specs.State.{totalOf}
+use Rattle.state.proofs.Soundness.{position-range}
 use Rattle.following.specs.Run.{afterPassed}
 use borrow.Author.Needs.{needs}
 use Rattle.following.proofs.events.after_passed.Statement.{statement}
 use Rattle.following.proofs.events.after_passed.Tie as tie
 
 mark-at-requires : tie.Need-mark-at-requires
-mark-at-requires c κs = search needs
+mark-at-requires c κs = position-range (c .pre)
 
 verify-paid-requires : tie.Need-verify-paid-requires
-verify-paid-requires c κs = search needs
+verify-paid-requires c κs = position-range (c .before .before .pre)
 
 add-sums : tie.Need-add-sums
 unfolding totalOf
@@ -25,7 +26,7 @@ add-sums c =
     omega (arith, pre .sums)
 
 saves-paid-requires : tie.Need-saves-paid-requires
-saves-paid-requires c κs = search needs
+saves-paid-requires c κs = position-range (c .before .before .before .before .pre)
 
 add-sums-2 : tie.Need-add-sums-2
 unfolding totalOf

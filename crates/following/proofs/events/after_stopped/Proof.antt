@@ -1,14 +1,13 @@
 -- `following::events::after_stopped` meets its contract. The last disk copy lies no later than the position, so the weight up to it is kept, and what is kept after it moves. Assumes nothing.
-use Prim.Native.Nat.{_≤_}
 use native.Mathlib.Nat.{le-trans}
 use native.Mathlib.Numerals.{add-one}
 use native.Mathlib.Omega.{arith}
-use Rattle.units.specs.Limits.{taskLimit}
 use Rattle.job.specs.Job.{between}
 use Rattle.job.proofs.Weights.{total-mono}
 use Rattle.state.specs.State.{totalOf}
 use Rattle.following.specs.Run.{backToDisk}
 use Rattle.state.proofs.Copies.{last-up-to}
+use Rattle.state.proofs.Soundness.{position-range}
 use borrow.Author.Needs.{needs}
 use Rattle.following.proofs.events.after_stopped.Statement.{statement}
 use Rattle.following.proofs.events.after_stopped.Tie as tie
@@ -30,7 +29,10 @@ add-sums c =
     omega (arith, wide .ensures .1, pre .sound .sums)
 
 rd-at-requires : tie.Need-rd-at-requires
-rd-at-requires c κs = search needs
+rd-at-requires c κs =
+    let pre = c .before .before .before .before .before .pre in
+    let last-copy = c .before .before .before .last-copy in
+    rw (last-copy .ensures, add-one) (le-trans (last-up-to _ _ _) (position-range (pre .sound)))
 
 add-sums-2 : tie.Need-add-sums-2
 unfolding totalOf
@@ -43,13 +45,11 @@ back-to-requires : tie.Need-back-to-requires
 unfolding totalOf
 back-to-requires c κs =
     let last-copy = c .before .before .before .before .before .last-copy in
-    let args = c .before .before .before .before .before .before .before .args in
     let pre = c .before .before .before .before .before .before .before .pre in
     let wide = c .before .before .before .wide in
     let copy = rw add-one at (last-copy .ensures) in
-    let within : args .run .place .position ≤ taskLimit = omega (arith, pre .running, pre .sound .values .few-tasks) in
     record {
-      within = rw copy (le-trans (last-up-to _ _ _) within);
+      within = rw copy (le-trans (last-up-to _ _ _) (position-range (pre .sound)));
       kept = rw (pre .sound .kept, copy) (total-mono _ _ _ (last-up-to _ _ _));
       fits = omega (arith, wide .ensures .1, pre .sound .sums);
     }

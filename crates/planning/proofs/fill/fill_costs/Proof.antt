@@ -21,7 +21,9 @@ loop-holds c =
     (omega arith, table-first _ _ _ (pre .filled))
 
 cm-at-requires : tie.Need-cm-at-requires Inv-loop μ-loop
-cm-at-requires c κs = search needs
+cm-at-requires c κs =
+    let pre = c .before .before .before .pre in
+    omega (arith, pre .sound .few-tasks)
 
 mul-cm : tie.Need-mul-cm Inv-loop μ-loop
 mul-cm c =
@@ -31,7 +33,9 @@ mul-cm c =
     record { fits = rw (cm-at .ensures .value) (omega (arith, cm-energy _ _ (pre .products) (loop .v))) }
 
 cd-at-requires : tie.Need-cd-at-requires Inv-loop μ-loop
-cd-at-requires c κs = search needs
+cd-at-requires c κs =
+    let pre = c .before .before .before .before .before .pre in
+    omega (arith, pre .sound .few-tasks)
 
 mul-cd : tie.Need-mul-cd Inv-loop μ-loop
 mul-cd c =
@@ -41,7 +45,9 @@ mul-cd c =
     record { fits = rw (cd-at .ensures .value) (omega (arith, cd-energy _ _ (pre .products) (loop .v))) }
 
 rd-at-requires : tie.Need-rd-at-requires Inv-loop μ-loop
-rd-at-requires c κs = search needs
+rd-at-requires c κs =
+    let pre = c .before .before .before .before .before .before .before .pre in
+    omega (arith, pre .sound .few-tasks)
 
 mul-rd : tie.Need-mul-rd Inv-loop μ-loop
 mul-rd c =
@@ -51,7 +57,9 @@ mul-rd c =
     record { fits = rw (rd-at .ensures .value) (omega (arith, rd-energy _ _ (pre .products) (loop .v))) }
 
 rm-at-requires : tie.Need-rm-at-requires Inv-loop μ-loop
-rm-at-requires c κs = search needs
+rm-at-requires c κs =
+    let pre = c .before .before .before .before .before .before .before .before .before .pre in
+    omega (arith, pre .sound .few-tasks)
 
 mul-rm : tie.Need-mul-rm Inv-loop μ-loop
 mul-rm c =
