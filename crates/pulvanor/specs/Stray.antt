@@ -15,7 +15,7 @@ use Rattle.pricing.specs.Price.{priceOf}
 use Rattle.costs.specs.declared.Powers.{Powers}
 use Rattle.planning.specs.Promise.{Refused, Plans}
 use Rattle.planning.specs.Energy.{PlansByEnergy}
-use Rattle.equations.specs.Promise.{PlansAsPrinted}
+use Rattle.engine.specs.Promise.{PlansAsPrinted}
 use Rattle.following.specs.Start.{refusedStart, startOf}
 
 -- every call refuses the sheet s by 28: a lookup, a reading in both its forms, a price, a plan, a plan by energy, a plan by the equations as printed, a start,

@@ -6,7 +6,7 @@ ghost use Rattle.joining.specs.Join.{Joins};
 ghost use Rattle.pricing.specs.Price.{priceOf};
 ghost use Rattle.planning.specs.Promise.{Plans};
 ghost use Rattle.planning.specs.Energy.{PlansByEnergy};
-ghost use Rattle.equations.specs.Promise.{PlansAsPrinted};
+ghost use Rattle.engine.specs.Promise.{PlansAsPrinted};
 ghost use Rattle.following.specs.Start.{startOf};
 ghost use Rattle.logs.specs.Log.{logOf};
 use costs::Powers;
@@ -77,7 +77,7 @@ pub extern "C" fn pulvanor_energy(
 pub extern "C" fn pulvanor_printed(sheet: &[u8], buffer: &mut [u8]) -> Answer
     ensures { λ r. ⌜ PlansAsPrinted (now (sheet .entry)) (now (buffer .entry)) (now (buffer .exit)) r ⌝ }
 {
-    equations::printed(sheet, buffer)
+    engine::printed(sheet, buffer)
 }
 
 #[no_mangle]
