@@ -13,26 +13,30 @@ use job::totals::weight_to;
 use marks::marks_refusal;
 use refusals::BAD_COUNT;
 
-// The sums together pass the limit. Each is compared alone first, so that no sum of them can wrap.
+// How many sums a run has.
+const SUMS: usize = 5;
+
+// The sums together pass the limit. Each is compared alone before it is added, so that the total cannot wrap.
 pub fn over_total(sums: Sums) -> bool
     ensures { λ r. ⌜ r ≡ overTotal sums ⌝ }
 {
-    if Run::MAX_TOTAL < sums.kept {
-        return true;
+    let parts = [
+        sums.kept,
+        sums.redone,
+        sums.verify,
+        sums.saves,
+        sums.recovery,
+    ];
+    let mut total: u64 = 0;
+    let mut k: usize = 0;
+    while k < SUMS {
+        if Run::MAX_TOTAL < parts[k] {
+            return true;
+        }
+        total += parts[k];
+        k += 1;
     }
-    if Run::MAX_TOTAL < sums.redone {
-        return true;
-    }
-    if Run::MAX_TOTAL < sums.verify {
-        return true;
-    }
-    if Run::MAX_TOTAL < sums.saves {
-        return true;
-    }
-    if Run::MAX_TOTAL < sums.recovery {
-        return true;
-    }
-    Run::MAX_TOTAL < sums.kept + sums.redone + sums.verify + sums.saves + sums.recovery
+    Run::MAX_TOTAL < total
 }
 
 // A verification is awaited where the mark is 0; the start has none.

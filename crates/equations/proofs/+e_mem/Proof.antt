@@ -75,7 +75,7 @@ e-mem-e-verif-requires t c κs =
       copies = loop .inv .from;
       start = loop .inv .to;
       end = pre .end;
-      time = c .e-mem .ensures .cap;
+      time = omega (arith, c .e-mem .ensures .cap);
     }
 
 e-mem-add-time : (t : ℕ) → e-mem-lts.Need-add-time (e-mem-calls t) (e-mem-at t) e-mem.Post e-mem-Inv-loop e-mem-μ-loop
