@@ -27,9 +27,11 @@ use Rattle.costs.specs.Energy.{energyS, energyChain, energyOf}
 use Rattle.pricing.specs.Price.{priceRefusal, priceOf}
 use Rattle.planning.specs.Energy.{outOfRange, passes, badComputing, badSaving, badPowers, energyRefusal, PlansByEnergy}
 use Rattle.planning.proofs.ByEnergy.{energy-least}
-use Rattle.state.specs.State.{cleared, fresh, zeroRun, totalOf, brokenValues, badAwaiting, overTotal, brokenPlace, broken, finished}
-use Rattle.following.specs.Run.{afterDone, afterPassed, backToMemory, backToDisk, placeAfter, nextPlace, outOfTurn, overWeight, stepRefusal, stepOf}
-use Rattle.following.specs.Start.{startRefusal, startOf}
+use Rattle.state.specs.State.{cleared, fresh, zeroRun}
+use Rattle.rules.specs.Rules.{totalOf, brokenValues, badAwaiting, overTotal, brokenPlace, broken, finished}
+use Rattle.events.specs.Events.{afterDone, afterPassed, backToMemory, backToDisk, placeAfter}
+use Rattle.following.specs.Run.{nextPlace, outOfTurn, overWeight, stepRefusal, stepOf}
+use Rattle.starting.specs.Start.{startRefusal, startOf}
 use Rattle.history.specs.Events.{steps}
 use Rattle.examples.specs.Starred.{
   headerA,

@@ -14,12 +14,13 @@ use Rattle.sheet.specs.Layout.{tasks, weightsKind, indexOf, section}
 use Rattle.sheet.specs.Reading.{sectionField, weightsOf, sheetConditions, sheetRefusal, jobOf}
 use Rattle.sheet.proofs.Readings.{sheet-sound}
 use Rattle.marks.specs.Marks.{marksConditions}
-use Rattle.state.specs.State.{awaits, broken, finished, overTotal, cleared, fresh}
+use Rattle.rules.specs.Rules.{awaits, broken, finished, overTotal}
+use Rattle.state.specs.State.{cleared, fresh}
 use Rattle.following.specs.Run.{outOfTurn, overWeight, nextPlace, standing, stepConditions, stepRefusal, stepOf}
-use Rattle.following.specs.Start.{startRefusal, startOf}
+use Rattle.starting.specs.Start.{startRefusal, startOf}
 use Rattle.state.specs.declared.Run.{Run}
-use Rattle.following.specs.declared.Event.{Event}
-use Rattle.following.proofs.Starts.{start-by-marks, start-length}
+use Rattle.events.specs.declared.Event.{Event}
+use Rattle.starting.proofs.Starts.{start-by-marks, start-length}
 
 step-numbered : (run : Run) (event : Event) → Numbered (stepConditions run event)
 unfolding has distinct

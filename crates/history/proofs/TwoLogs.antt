@@ -13,7 +13,7 @@ use lib.ListN.{length, take, drop, length-append, length-drop, take-append-drop}
 use lib.Seq.{take-append-le, drop-append-le, drop-append-add}
 use Rattle.lists.proofs.Lists.{or-fails}
 use Rattle.refusals.specs.Numbers
-use Rattle.state.specs.State.{broken}
+use Rattle.rules.specs.Rules.{broken}
 use Rattle.following.specs.Run.{stepOf, accepted, refused}
 use Rattle.state.specs.declared.Run.{Run}
 use Rattle.following.specs.declared.Stepped.{Stepped}

@@ -20,17 +20,19 @@ use Rattle.job.proofs.Weights.{total-more}
 use Rattle.sheet.specs.Reading.{jobOf}
 use Rattle.sheet.proofs.Sections.{layout-passed}
 use Rattle.sheet.proofs.Readings.{sheet-layout, sheet-goes-on}
-use Rattle.state.specs.State.{totalLimit, totalOf, marksIn, marksRead, brokenValues, badAwaiting, overTotal, brokenPlace, broken, fresh}
-use Rattle.following.specs.Run.{lastMemory, lastDisk, afterDone, afterPassed, backToMemory, backToDisk, placeAfter, nextPlace, outOfTurn, standing, stepOf}
-use Rattle.following.specs.Start.{startOf}
+use Rattle.rules.specs.Rules.{totalLimit, totalOf, marksIn, marksRead, brokenValues, badAwaiting, overTotal, brokenPlace, broken}
+use Rattle.state.specs.State.{fresh}
+use Rattle.events.specs.Events.{lastMemory, lastDisk, afterDone, afterPassed, backToMemory, backToDisk, placeAfter}
+use Rattle.following.specs.Run.{nextPlace, outOfTurn, standing, stepOf}
+use Rattle.starting.specs.Start.{startOf}
 use Rattle.state.specs.declared.Place.{Place}
 use Rattle.state.specs.declared.Run.{Run}
-use Rattle.following.specs.declared.Event.{Event}
-use Rattle.following.specs.declared.Event.the-variants.{Done, Passed, Failed, Stopped}
+use Rattle.events.specs.declared.Event.{Event}
+use Rattle.events.specs.declared.Event.the-variants.{Done, Passed, Failed, Stopped}
 use Rattle.following.specs.declared.Stepped.{Stepped}
-use Rattle.state.proofs.Copies.{last-up-to, move-kept}
+use Rattle.rules.proofs.Copies.{last-up-to, move-kept}
 use Rattle.state.proofs.Fresh.{cleared-taken}
-use Rattle.state.proofs.Soundness.{job-numbered, PlacePassed, run-values, run-place}
+use Rattle.rules.proofs.Soundness.{job-numbered, PlacePassed, run-values, run-place}
 use Rattle.following.proofs.Steps.{step-broken, task-runs}
 use Rattle.history.proofs.Accepted.{Accepted, step-accepted, Begun, start-begun}
 

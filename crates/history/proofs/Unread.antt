@@ -20,16 +20,17 @@ use Rattle.job.specs.Job.{weightAt, total, between, stretchAllowed}
 use Rattle.job.specs.Checks.{badWeight, badValue, badTask}
 use Rattle.marks.specs.Marks.{marksOf, badStretch, badStretches}
 use Rattle.costs.specs.Costs.{vAt, cmAt, cdAt, rdAt, rmAt, verifyPaid, savesPaid}
-use Rattle.following.specs.Run.{lastMemory, lastDisk, afterDone, afterPassed, backToMemory, backToDisk, placeAfter, nextPlace, outOfTurn, overWeight, stepRefusal, standing, accepted, refused, stepOf}
-use Rattle.state.specs.State.{marksIn, awaits, brokenValues, badAwaiting, overTotal, brokenPlace, broken, finished}
+use Rattle.events.specs.Events.{lastMemory, lastDisk, afterDone, afterPassed, backToMemory, backToDisk, placeAfter}
+use Rattle.following.specs.Run.{nextPlace, outOfTurn, overWeight, stepRefusal, standing, accepted, refused, stepOf}
+use Rattle.rules.specs.Rules.{marksIn, awaits, brokenValues, badAwaiting, overTotal, brokenPlace, broken, finished}
 use Rattle.following.specs.Working.Ready.{ReadyForEvent}
 use Rattle.state.specs.declared.Run.{Run}
-use Rattle.following.specs.declared.Event.{Event}
-use Rattle.following.specs.declared.Event.the-variants.{Done, Passed, Failed, Stopped}
+use Rattle.events.specs.declared.Event.{Event}
+use Rattle.events.specs.declared.Event.the-variants.{Done, Passed, Failed, Stopped}
 use Rattle.state.specs.declared.Place.{Place}
 use Rattle.following.specs.declared.Stepped.{Stepped}
-use Rattle.state.proofs.Copies.{last-up-to}
-use Rattle.state.proofs.Soundness.{run-place}
+use Rattle.rules.proofs.Copies.{last-up-to}
+use Rattle.rules.proofs.Soundness.{run-place}
 use Rattle.following.proofs.Steps.{task-runs}
 use Rattle.logs.specs.Log.{recordCount, recordAt, badRecord, eventOf, recorded, applied, orBefore, emptyLog, logOf}
 use Rattle.history.specs.Entries.{withEntries, answerWith, Agree}

@@ -7,14 +7,14 @@ ghost use Rattle.pricing.specs.Price.{priceOf};
 ghost use Rattle.planning.specs.Promise.{Plans};
 ghost use Rattle.planning.specs.Energy.{PlansByEnergy};
 ghost use Rattle.engine.specs.Promise.{PlansAsPrinted};
-ghost use Rattle.following.specs.Start.{startOf};
+ghost use Rattle.starting.specs.Start.{startOf};
 ghost use Rattle.logs.specs.Log.{logOf};
 use costs::Powers;
-use following::Started;
 use following::Stepped;
 use joining::Joined;
 use refusals::Answer;
 use sheet::Found;
+use starting::Started;
 use state::Run;
 
 #[no_mangle]
@@ -84,7 +84,7 @@ pub extern "C" fn pulvanor_printed(sheet: &[u8], buffer: &mut [u8]) -> Answer
 pub extern "C" fn pulvanor_start(sheet: &[u8], marks: &[u8]) -> Started
     ensures { λ r. ⌜ r ≡ startOf (now (sheet .entry)) (now (marks .entry)) ⌝ }
 {
-    following::start(sheet, marks)
+    starting::start(sheet, marks)
 }
 
 // The records of a log; one record is one event.
