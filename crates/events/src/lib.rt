@@ -8,11 +8,11 @@ ghost use Rattle.events.specs.Events.{lastMemory, lastDisk, afterDone, a
 ghost use Rattle.events.specs.Working.Ready.{TaskRuns, ReadyToMove, backAt};
 use chain::DISK;
 use chain::MEMORY;
-use costs::rd_at;
-use costs::rm_at;
-use costs::saves_paid;
-use costs::v_at;
-use costs::verify_paid;
+use charges::rd_at;
+use charges::rm_at;
+use charges::saves_paid;
+use charges::v_at;
+use charges::verify_paid;
 use job::Job;
 use job::totals::weight_to;
 use job::totals::wide;

@@ -33,7 +33,7 @@ use Rattle.costs.specs.declared.Powers.{Powers}
 use Rattle.costs.proofs.Stretches.{S-rises, energy-rises}
 use Rattle.costs.proofs.Dearer.{each, raised-by}
 use Rattle.pricing.specs.Price.{priceRefusal, priceOf}
-use Rattle.pricing.proofs.Dearer.{booking-holds}
+use Rattle.dearer.proofs.Dearer.{booking-holds}
 use Rattle.planning.specs.Promise.{PlansChecked, Free, Plans}
 use Rattle.planning.specs.Energy.{outOfRange, passes, badComputing, badSaving, badPowers, energyRefusal}
 use Rattle.planning.proofs.Theorems.{plan-computed, slow-computed}

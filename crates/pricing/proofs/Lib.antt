@@ -2,4 +2,3 @@
 pub mod Prices
 pub mod Steps
 pub mod Progresses
-pub mod Dearer

@@ -19,10 +19,10 @@ use Rattle.equations.proofs.+e+e_verif.Lts-e as e-lts
 use Rattle.equations.proofs.e_verif.Reads as e-verif
 use Rattle.equations.proofs.e_verif.Kinds as e-verif-kinds
 use Rattle.equations.proofs.+e+e_verif.Lts-e_verif as e-verif-lts
-use Rattle.costs.proofs.rd_at.Reads as rd-at-reads
-use Rattle.costs.proofs.rd_at.Kinds as rd-at-kinds
-use Rattle.costs.proofs.rm_at.Reads as rm-at-reads
-use Rattle.costs.proofs.rm_at.Kinds as rm-at-kinds
+use Rattle.charges.proofs.rd_at.Reads as rd-at-reads
+use Rattle.charges.proofs.rd_at.Kinds as rd-at-kinds
+use Rattle.charges.proofs.rm_at.Reads as rm-at-reads
+use Rattle.charges.proofs.rm_at.Kinds as rm-at-kinds
 use Rattle.equations.proofs.growths.Reads as growths-reads
 use Rattle.equations.proofs.growths.Kinds as growths-kinds
 use Rattle.equations.proofs.offer.Reads as offer-reads

@@ -13,8 +13,8 @@ use borrow.Fn.PlainCycle.{Measures, is, falls, and}
 use Rattle.equations.proofs.e_disk.Reads as e-disk
 use Rattle.equations.proofs.e_disk.Kinds as e-disk-kinds
 use Rattle.equations.proofs.+e_disk.Lts-e_disk as e-disk-lts
-use Rattle.costs.proofs.cd_at.Reads as cd-at-reads
-use Rattle.costs.proofs.cd_at.Kinds as cd-at-kinds
+use Rattle.charges.proofs.cd_at.Reads as cd-at-reads
+use Rattle.charges.proofs.cd_at.Kinds as cd-at-kinds
 use Rattle.equations.proofs.e_mem.Reads as e-mem-reads
 use Rattle.equations.proofs.e_mem.Kinds as e-mem-kinds
 use Rattle.equations.proofs.offer.Reads as offer-reads

@@ -13,8 +13,8 @@ use borrow.Fn.PlainCycle.{Measures, is, falls, and}
 use Rattle.equations.proofs.e_mem.Reads as e-mem
 use Rattle.equations.proofs.e_mem.Kinds as e-mem-kinds
 use Rattle.equations.proofs.+e_mem.Lts-e_mem as e-mem-lts
-use Rattle.costs.proofs.cm_at.Reads as cm-at-reads
-use Rattle.costs.proofs.cm_at.Kinds as cm-at-kinds
+use Rattle.charges.proofs.cm_at.Reads as cm-at-reads
+use Rattle.charges.proofs.cm_at.Kinds as cm-at-kinds
 use Rattle.equations.proofs.e_verif.Reads as e-verif-reads
 use Rattle.equations.proofs.e_verif.Kinds as e-verif-kinds
 use Rattle.equations.proofs.offer.Reads as offer-reads
