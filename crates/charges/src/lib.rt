@@ -6,7 +6,7 @@ ghost use lib.Dec.{eqb};
 ghost use Prim.Native.Nat.{_≤_};
 ghost use Rattle.units.specs.Limits.{taskLimit};
 ghost use Rattle.costs.specs.Costs.{vAt, cmAt, cdAt, rdAt, rmAt, verifyPaid, savesPaid};
-ghost use Rattle.charges.specs.Working.Charges.{CostIs};
+ghost use Rattle.charges.specs.Working.Charges.{CostIs, PaidIs};
 use job::Job;
 use marks::payments;
 
@@ -62,7 +62,7 @@ pub fn rm_at(job: Job, m: usize) -> u64
 
 // The cost, where it is paid.
 fn paid(pays: bool, cost: u64) -> u64
-    ensures { λ r. ⌜ (r ≡ cond pays cost 0) × (r ≤ cost) ⌝ }
+    ensures { λ r. ⌜ PaidIs pays cost r ⌝ }
 {
     if pays {
         return cost;

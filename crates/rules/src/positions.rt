@@ -1,10 +1,10 @@
 // Weights, marks and copies up to a position.
 ghost use mathlib.Core.Path.{_≡_};
-ghost use Prim.Native.Nat.{_≤_, _<_, _^_};
+ghost use Prim.Native.Nat.{_≤_, _<_};
 ghost use Rattle.chain.specs.Time.{last};
 ghost use Rattle.units.specs.Limits.{taskLimit};
-ghost use Rattle.job.specs.Job.{weightAt};
 ghost use Rattle.rules.specs.Rules.{marksIn};
+ghost use Rattle.rules.specs.Working.Sound.{WeightIs};
 use job::Job;
 use job::totals::wide;
 use state::Run;
@@ -12,7 +12,7 @@ use state::Run;
 // The weight of task j + 1.
 pub fn weight_at(job: Job, j: usize) -> u64
     requires { ⌜ j < taskLimit ⌝ }
-    ensures { λ r. ⌜ (r ≡ weightAt (job .weights) j) × (r < 2 ^ 32) ⌝ }
+    ensures { λ r. ⌜ WeightIs job j r ⌝ }
 {
     wide(job.weights[j])
 }

@@ -1,2 +1,2 @@
 -- The laws of a fresh run that the crate's own proofs and the crates above cite.
-pub mod Fresh
+pub mod EntriesTaken

@@ -26,7 +26,7 @@ add-result c =
     let paid2 = c .paid2 in
     let cm-at = c .before .before .before .cm-at in
     let cd-at = c .before .cd-at in
-    omega (arith, paid .ensures .1, paid2 .ensures .1, cm-at .ensures .fits, cd-at .ensures .fits)
+    omega (arith, paid .ensures .most, paid2 .ensures .most, cm-at .ensures .fits, cd-at .ensures .fits)
 
 returns : tie.Need-returns
 unfolding savesPaid
@@ -36,7 +36,7 @@ returns c =
     let cm-at = c .before .before .before .cm-at in
     let cd-at = c .before .cd-at in
     let payments = c .before .before .before .before .payments in
-    rw (paid .ensures .0, paid2 .ensures .0, cm-at .ensures .value, cd-at .ensures .value, payments .ensures)
+    rw (paid .ensures .value, paid2 .ensures .value, cm-at .ensures .value, cd-at .ensures .value, payments .ensures)
 
 pub saves-paid-spec : {M : Type 1} → statement M
 saves-paid-spec =

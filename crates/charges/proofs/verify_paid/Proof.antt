@@ -19,7 +19,7 @@ returns c =
     let paid = c .paid in
     let v-at = c .before .v-at in
     let payments = c .before .before .payments in
-    rw (paid .ensures .0, v-at .ensures .value, payments .ensures)
+    rw (paid .ensures .value, v-at .ensures .value, payments .ensures)
 
 pub verify-paid-spec : {M : Type 1} → statement M
 verify-paid-spec = tie.close (tie.spec payments-requires v-at-requires paid-requires returns)

@@ -15,7 +15,7 @@ unfolding totalOf
 add-sums c =
     let weight-at = c .before .weight-at in
     let pre = c .before .before .before .pre in
-    omega (arith, weight-at .ensures .1, pre .sound .sums)
+    omega (arith, weight-at .ensures .fits, pre .sound .sums)
 
 add-t5 : tie.Need-add-t5
 add-t5 c = search needs
@@ -34,7 +34,7 @@ unfolding afterDone
 returns c =
     let mark-at = c .before .mark-at in
     let weight-at = c .before .before .before .weight-at in
-    rw (c .awaited .ensures, mark-at .ensures, weight-at .ensures .0, add-one)
+    rw (c .awaited .ensures, mark-at .ensures, weight-at .ensures .value, add-one)
 
 pub after-done-spec : {M : Type 1} → statement M
 after-done-spec =

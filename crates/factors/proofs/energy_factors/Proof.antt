@@ -99,8 +99,8 @@ returns c =
       h .ensures,
       g .ensures,
       g2 .ensures,
-      exponent-of .ensures .0,
-      exponent-of2 .ensures .0,
+      exponent-of .ensures .value,
+      exponent-of2 .ensures .value,
     )
 
 pub energy-factors-spec : {M : Type 1} → statement M

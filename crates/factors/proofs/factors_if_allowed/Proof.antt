@@ -21,7 +21,7 @@ returns : tie.Need-returns
 returns c =
     let exponent-of = c .before .before .exponent-of in
     let exponent-of2 = c .before .exponent-of2 in
-    none-allowed _ _ _ _ (omega (arith, exponent-of .ensures .0, exponent-of2 .ensures .0))
+    none-allowed _ _ _ _ (omega (arith, exponent-of .ensures .value, exponent-of2 .ensures .value))
 
 energy-factors-requires : tie.Need-energy-factors-requires
 energy-factors-requires c κs = search needs

@@ -43,7 +43,7 @@ returns-4 : tie.Need-returns-4
 unfolding overWeight
 returns-4 c =
     let event = c .before .before .before .event .given .1 in
-    rw (event, c .before .weight-at .ensures .0, c .wide .ensures .0)
+    rw (event, c .before .weight-at .ensures .value, c .wide .ensures .0)
 
 pub over-weight-spec : {M : Type 1} → statement M
 over-weight-spec =

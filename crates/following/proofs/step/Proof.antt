@@ -6,7 +6,6 @@ use Rattle.rules.proofs.Soundness.{run-sound}
 use Rattle.events.specs.Events.{placeAfter}
 use Rattle.events.specs.declared.Event.the-variants.{Done, Passed, Failed, Stopped}
 use Rattle.following.specs.Run.{nextPlace}
-use Rattle.following.specs.Working.Ready.{ReadyForWeight}
 use Rattle.following.proofs.Steps.{step-broken, step-finished, step-out-of-turn, step-over-weight, step-arrives, done-runs, stopped-runs}
 use Rattle.following.proofs.step.Statement.{statement}
 use Rattle.following.proofs.step.Tie as tie
@@ -61,10 +60,7 @@ refused-requires-4 c κs = search needs
 returns-4 : tie.Need-returns-4
 returns-4 c =
     let args = c .before .before .before .before .before .before .before .before .before .before .args in
-    let unbroken = sym (c .before .before .before .before .before .before .before .before .before .broken .ensures) ∙ c .before .before .before .before .before .before .before .before .if1 .left in
-    let unfinished = sym (c .before .before .before .before .before .before .before .finished .ensures) ∙ c .before .before .before .before .before .before .if2 .left in
-    let turn = sym (c .before .before .before .before .out-of-turn .ensures) ∙ c .before .before .before .if3 .left in
-    let ready : ReadyForWeight (c .before .before .before .before .before .before .before .before .before .before .args .run) (c .before .before .before .before .before .before .before .before .before .before .args .event) = record { state = record { unbroken = unbroken; unfinished = unfinished }; turn = turn } in
+    let ready = over-weight-requires (c .before .before .before) tt in
     c .refused4 .ensures ∙ step-over-weight (args .run) (args .event) ready (sym (c .before .before .over-weight .ensures) ∙ c .before .if4 .taken)
 
 enum-told : tie.Need-enum-told
@@ -72,11 +68,8 @@ enum-told c = search needs
 
 after-done-requires : tie.Need-after-done-requires
 after-done-requires c κs =
-    let unbroken = sym (c .before .before .before .before .before .before .before .before .before .before .broken .ensures) ∙ c .before .before .before .before .before .before .before .before .before .if1 .left in
-    let unfinished = sym (c .before .before .before .before .before .before .before .before .finished .ensures) ∙ c .before .before .before .before .before .before .before .if2 .left in
-    let turn = sym (c .before .before .before .before .before .out-of-turn .ensures) ∙ c .before .before .before .before .if3 .left in
-    let ready : ReadyForWeight (c .before .before .before .before .before .before .before .before .before .before .before .args .run) (c .before .before .before .before .before .before .before .before .before .before .before .args .event) = record { state = record { unbroken = unbroken; unfinished = unfinished }; turn = turn } in
-    done-runs (c .before .before .before .before .before .before .before .before .before .before .before .args .run) (rw (c .enum-told .given .1) at ready)
+    let ready = over-weight-requires (c .before .before .before .before) tt in
+    done-runs _ (rw (c .enum-told .given .1) at ready)
 
 arrived-requires : tie.Need-arrived-requires
 arrived-requires c κs = search needs
@@ -86,8 +79,8 @@ enum-told-2 c = search needs
 
 after-passed-requires : tie.Need-after-passed-requires
 after-passed-requires c κs =
-    let unbroken = sym (c .before .before .before .before .before .before .before .before .before .before .broken .ensures) ∙ c .before .before .before .before .before .before .before .before .before .if1 .left in
-    run-sound (c .before .before .before .before .before .before .before .before .before .before .before .args .run) unbroken
+    let ready = over-weight-requires (c .before .before .before .before) tt in
+    run-sound _ (ready .state .unbroken)
 
 arrived-requires-2 : tie.Need-arrived-requires-2
 arrived-requires-2 c κs = search needs
@@ -97,8 +90,8 @@ enum-told-3 c = search needs
 
 after-failed-requires : tie.Need-after-failed-requires
 after-failed-requires c κs =
-    let unbroken = sym (c .before .before .before .before .before .before .before .before .before .before .broken .ensures) ∙ c .before .before .before .before .before .before .before .before .before .if1 .left in
-    run-sound (c .before .before .before .before .before .before .before .before .before .before .before .args .run) unbroken
+    let ready = over-weight-requires (c .before .before .before .before) tt in
+    run-sound _ (ready .state .unbroken)
 
 arrived-requires-3 : tie.Need-arrived-requires-3
 arrived-requires-3 c κs = search needs
@@ -108,11 +101,8 @@ enum-known-event c = search needs
 
 after-stopped-requires : tie.Need-after-stopped-requires
 after-stopped-requires c κs =
-    let unbroken = sym (c .before .before .before .before .before .before .before .before .before .before .before .broken .ensures) ∙ c .before .before .before .before .before .before .before .before .before .before .if1 .left in
-    let unfinished = sym (c .before .before .before .before .before .before .before .before .before .finished .ensures) ∙ c .before .before .before .before .before .before .before .before .if2 .left in
-    let turn = sym (c .before .before .before .before .before .before .out-of-turn .ensures) ∙ c .before .before .before .before .before .if3 .left in
-    let ready : ReadyForWeight (c .before .before .before .before .before .before .before .before .before .before .before .before .args .run) (c .before .before .before .before .before .before .before .before .before .before .before .before .args .event) = record { state = record { unbroken = unbroken; unfinished = unfinished }; turn = turn } in
-    stopped-runs (c .before .before .before .before .before .before .before .before .before .before .before .before .args .run) _ (rw (c .before .event .given .1) at ready)
+    let ready = over-weight-requires (c .before .before .before .before .before) tt in
+    stopped-runs _ _ (rw (c .before .event .given .1) at ready)
 
 arrived-requires-4 : tie.Need-arrived-requires-4
 arrived-requires-4 c κs = search needs
@@ -120,46 +110,34 @@ arrived-requires-4 c κs = search needs
 returns-5 : tie.Need-returns-5
 unfolding nextPlace placeAfter
 returns-5 c =
-    let unbroken = sym (c .before .before .before .before .before .before .before .before .before .before .before .before .broken .ensures) ∙ c .before .before .before .before .before .before .before .before .before .before .before .if1 .left in
-    let unfinished = sym (c .before .before .before .before .before .before .before .before .before .before .finished .ensures) ∙ c .before .before .before .before .before .before .before .before .before .if2 .left in
-    let turn = sym (c .before .before .before .before .before .before .before .out-of-turn .ensures) ∙ c .before .before .before .before .before .before .if3 .left in
-    let ready : ReadyForWeight (c .before .before .before .before .before .before .before .before .before .before .before .before .before .args .run) (c .before .before .before .before .before .before .before .before .before .before .before .before .before .args .event) = record { state = record { unbroken = unbroken; unfinished = unfinished }; turn = turn } in
+    let ready = over-weight-requires (c .before .before .before .before .before .before) tt in
     let event = c .before .before .enum-told .given .1 in
     let weight = sym (c .before .before .before .before .before .over-weight .ensures) ∙ c .before .before .before .before .if4 .left in
-    rw event (c .arrived .ensures ∙ step-arrives (c .before .before .before .before .before .before .before .before .before .before .before .before .before .args .run) Done (rw event at ready) (rw event at weight) _ (c .before .after-done .ensures))
+    rw event (c .arrived .ensures ∙ step-arrives _ Done (rw event at ready) (rw event at weight) _ (c .before .after-done .ensures))
 
 returns-6 : tie.Need-returns-6
 unfolding nextPlace placeAfter
 returns-6 c =
-    let unbroken = sym (c .before .before .before .before .before .before .before .before .before .before .before .before .broken .ensures) ∙ c .before .before .before .before .before .before .before .before .before .before .before .if1 .left in
-    let unfinished = sym (c .before .before .before .before .before .before .before .before .before .before .finished .ensures) ∙ c .before .before .before .before .before .before .before .before .before .if2 .left in
-    let turn = sym (c .before .before .before .before .before .before .before .out-of-turn .ensures) ∙ c .before .before .before .before .before .before .if3 .left in
-    let ready : ReadyForWeight (c .before .before .before .before .before .before .before .before .before .before .before .before .before .args .run) (c .before .before .before .before .before .before .before .before .before .before .before .before .before .args .event) = record { state = record { unbroken = unbroken; unfinished = unfinished }; turn = turn } in
+    let ready = over-weight-requires (c .before .before .before .before .before .before) tt in
     let event = c .before .before .enum-told2 .given .1 in
     let weight = sym (c .before .before .before .before .before .over-weight .ensures) ∙ c .before .before .before .before .if4 .left in
-    rw event (c .arrived2 .ensures ∙ step-arrives (c .before .before .before .before .before .before .before .before .before .before .before .before .before .args .run) Passed (rw event at ready) (rw event at weight) _ (c .before .after-passed .ensures))
+    rw event (c .arrived2 .ensures ∙ step-arrives _ Passed (rw event at ready) (rw event at weight) _ (c .before .after-passed .ensures))
 
 returns-7 : tie.Need-returns-7
 unfolding nextPlace placeAfter
 returns-7 c =
-    let unbroken = sym (c .before .before .before .before .before .before .before .before .before .before .before .before .broken .ensures) ∙ c .before .before .before .before .before .before .before .before .before .before .before .if1 .left in
-    let unfinished = sym (c .before .before .before .before .before .before .before .before .before .before .finished .ensures) ∙ c .before .before .before .before .before .before .before .before .before .if2 .left in
-    let turn = sym (c .before .before .before .before .before .before .before .out-of-turn .ensures) ∙ c .before .before .before .before .before .before .if3 .left in
-    let ready : ReadyForWeight (c .before .before .before .before .before .before .before .before .before .before .before .before .before .args .run) (c .before .before .before .before .before .before .before .before .before .before .before .before .before .args .event) = record { state = record { unbroken = unbroken; unfinished = unfinished }; turn = turn } in
+    let ready = over-weight-requires (c .before .before .before .before .before .before) tt in
     let event = c .before .before .enum-told3 .given .1 in
     let weight = sym (c .before .before .before .before .before .over-weight .ensures) ∙ c .before .before .before .before .if4 .left in
-    rw event (c .arrived3 .ensures ∙ step-arrives (c .before .before .before .before .before .before .before .before .before .before .before .before .before .args .run) Failed (rw event at ready) (rw event at weight) _ (c .before .after-failed .ensures))
+    rw event (c .arrived3 .ensures ∙ step-arrives _ Failed (rw event at ready) (rw event at weight) _ (c .before .after-failed .ensures))
 
 returns-8 : tie.Need-returns-8
 unfolding nextPlace placeAfter
 returns-8 c =
-    let unbroken = sym (c .before .before .before .before .before .before .before .before .before .before .before .before .before .broken .ensures) ∙ c .before .before .before .before .before .before .before .before .before .before .before .before .if1 .left in
-    let unfinished = sym (c .before .before .before .before .before .before .before .before .before .before .before .finished .ensures) ∙ c .before .before .before .before .before .before .before .before .before .before .if2 .left in
-    let turn = sym (c .before .before .before .before .before .before .before .before .out-of-turn .ensures) ∙ c .before .before .before .before .before .before .before .if3 .left in
-    let ready : ReadyForWeight (c .before .before .before .before .before .before .before .before .before .before .before .before .before .before .args .run) (c .before .before .before .before .before .before .before .before .before .before .before .before .before .before .args .event) = record { state = record { unbroken = unbroken; unfinished = unfinished }; turn = turn } in
+    let ready = over-weight-requires (c .before .before .before .before .before .before .before) tt in
     let event = c .before .before .before .event .given .1 in
     let weight = sym (c .before .before .before .before .before .before .over-weight .ensures) ∙ c .before .before .before .before .before .if4 .left in
-    rw event (c .arrived4 .ensures ∙ step-arrives (c .before .before .before .before .before .before .before .before .before .before .before .before .before .before .args .run) _ (rw event at ready) (rw event at weight) _ (c .before .after-stopped .ensures))
+    rw event (c .arrived4 .ensures ∙ step-arrives _ _ (rw event at ready) (rw event at weight) _ (c .before .after-stopped .ensures))
 
 pub step-spec : {M : Type 1} → statement M
 step-spec =

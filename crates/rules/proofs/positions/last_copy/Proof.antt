@@ -1,6 +1,7 @@
 -- `rules::positions::last_copy` meets its contract. The loop's invariant: the position found is the last copy before the next position. The measure is what is
 -- left of the positions. Assumes nothing.
-use Prim.Native.Nat.{suc, _-_, _≤_}
+use Rattle.state.specs.declared.Run.{Run}
+use Prim.Native.Nat.{ℕ, suc, _-_, _≤_}
 use mathlib.Core.Path.{_≡_, sym, _∙_}
 use mathlib.Core.Logic.{⊎-elim}
 use native.Mathlib.Omega.{arith}
@@ -11,14 +12,18 @@ use Rattle.rules.proofs.Copies.{last-next, last-kept, last-end}
 use Rattle.rules.proofs.positions.last_copy.Statement.{statement}
 use Rattle.rules.proofs.positions.last_copy.Tie as tie
 
+record Passed (run : Run) (least v found j : ℕ) : Type 0 where
+  to : j ≤ v - 1
+  value : found ≡ last least (marksIn run) (suc j)
+
 abbrev Inv-loop : tie.InvT-loop
-Inv-loop least v run found₀ j₀ found j = (j ≤ v - 1) × (found ≡ last least (marksIn run) (suc j))
+Inv-loop least v run found₀ j₀ found j = Passed run least v found j
 
 abbrev μ-loop : tie.MeasureT-loop
 μ-loop least v run found₀ j₀ found j = v - j
 
 loop-holds : tie.Need-loop-holds Inv-loop μ-loop
-loop-holds c = (omega arith, sym (last-first _ _))
+loop-holds c = record { to = omega arith; value = sym (last-first _ _) }
 
 add-loop : tie.Need-add-loop Inv-loop μ-loop
 add-loop c = omega arith
@@ -41,14 +46,14 @@ loop-again c =
     let loop = c .before .before .before .loop in
     let if1 = c .if1 in
     ⊎-elim
-    (λ w. (omega arith, w .1 ∙ sym (last-next _ (args .t1 .marks) _ (w .0 .taken))))
-    (λ w. (omega arith, w .1 ∙ loop .inv .1 ∙ sym (last-kept _ (args .t1 .marks) (loop .j) (w .0 .left))))
+    (λ w. record { to = omega arith; value = w .1 ∙ sym (last-next _ (args .t1 .marks) _ (w .0 .taken)) })
+    (λ w. record { to = omega arith; value = w .1 ∙ loop .inv .value ∙ sym (last-kept _ (args .t1 .marks) (loop .j) (w .0 .left)) })
     (if1 .came)
 
 returns : tie.Need-returns Inv-loop μ-loop
 returns c =
     let loop = c .before .loop in
-    loop .inv .1 ∙ sym (last-end _ _ _ _ (omega arith) (omega arith))
+    loop .inv .value ∙ sym (last-end _ _ _ _ (omega arith) (omega arith))
 
 pub last-copy-spec : {M : Type 1} → statement M
 last-copy-spec =

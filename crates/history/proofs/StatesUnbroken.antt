@@ -31,10 +31,10 @@ use Rattle.events.specs.declared.Event.{Event}
 use Rattle.events.specs.declared.Event.the-variants.{Done, Passed, Failed, Stopped}
 use Rattle.following.specs.declared.Stepped.{Stepped}
 use Rattle.rules.proofs.Copies.{last-up-to, move-kept}
-use Rattle.state.proofs.Fresh.{cleared-taken}
+use Rattle.state.proofs.EntriesTaken.{cleared-taken}
 use Rattle.rules.proofs.Soundness.{job-numbered, PlacePassed, run-values, run-place}
 use Rattle.following.proofs.Steps.{step-broken, task-runs}
-use Rattle.history.proofs.Accepted.{Accepted, step-accepted, Begun, start-begun}
+use Rattle.history.proofs.StepsAccepted.{Accepted, step-accepted, Begun, start-begun}
 
 -- a place that keeps the rules
 place-unbroken : (job : Job) (f : Marks) (place : Place) → PlacePassed job f place → brokenPlace job f place ≡ false

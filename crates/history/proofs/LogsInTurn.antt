@@ -20,7 +20,7 @@ use Rattle.following.specs.declared.Stepped.{Stepped}
 use Rattle.logs.specs.Log.{recordLength, recordCount, recordAt, badRecord, eventOf, recorded, applied, orBefore, emptyLog, logOf}
 use Rattle.logs.proofs.Records.{accepted-is, recorded-refused, applied-zero, applied-suc}
 use Rattle.history.specs.Events.{OneLog}
-use Rattle.history.proofs.Unbroken.{step-keeps-sound}
+use Rattle.history.proofs.StatesUnbroken.{step-keeps-sound}
 use Rattle.history.proofs.Logs.{recorded-accepted, before-number, before-accepted, before-refused, log-some, recorded-event, none-same, log-refused-same, applied-good}
 
 -- the answer to records after s

@@ -34,7 +34,7 @@ use Rattle.rules.proofs.Soundness.{run-place}
 use Rattle.following.proofs.Steps.{task-runs}
 use Rattle.logs.specs.Log.{recordCount, recordAt, badRecord, eventOf, recorded, applied, orBefore, emptyLog, logOf}
 use Rattle.history.specs.Entries.{withEntries, answerWith, Agree}
-use Rattle.history.proofs.Accepted.{step-accepted}
+use Rattle.history.proofs.StepsAccepted.{step-accepted}
 
 -- lists that agree up to n agree at each entry below n
 below : (n : ℕ) (l k : List ℕ) → take n l ≡ take n k → (j : ℕ) → j < n → getD l j 0 ≡ getD k j 0

@@ -31,12 +31,12 @@ unfolding entry
 left-entry l n i h = rw (le-ltb i n h)
 
 -- one entry more
-pub cleared-more : (l : List ℕ) (j : ℕ) → j < taskLimit → set (cleared j l) j (getD l j 0) ≡ cleared (j + 1) l
+cleared-more : (l : List ℕ) (j : ℕ) → j < taskLimit → set (cleared j l) j (getD l j 0) ≡ cleared (j + 1) l
 unfolding cleared
 cleared-more l j h = store-next taskLimit (λ i. getD l i 0) j h
 
 -- all of them
-pub cleared-all : (l : List ℕ) (n most : ℕ) → Entries n (length l) most → cleared most l ≡ cleared n l
+cleared-all : (l : List ℕ) (n most : ℕ) → Entries n (length l) most → cleared most l ≡ cleared n l
 unfolding cleared entry
 cleared-all l n most e = tabulate-same taskLimit (entry l most) (entry l n) same
   where
@@ -52,6 +52,20 @@ cleared-all l n most e = tabulate-same taskLimit (entry l most) (entry l n) same
         go (yes k) m = taken-entry l most i k ∙ sym (taken-entry l n i (omega (arith, e .tasks)))
         go (no k) (yes m) = left-entry l most i (omega arith) ∙ sym (past i h (omega arith) m (e .all)) ∙ sym (taken-entry l n i m)
         go (no k) (no m) = left-entry l most i (omega arith) ∙ sym (left-entry l n i (omega arith))
+
+-- The loops' invariant: of `most` entries the first j are taken from l, and 0 stands in the others.
+pub record Taken (l : List ℕ) (most : ℕ) (held : List ℕ) (j : ℕ) : Type 0 where
+  pub to : j ≤ most
+  pub entries : held ≡ cleared j l
+
+module _ (l : List ℕ) (n most : ℕ) (some : Entries n (length l) most) (held : List ℕ) (j : ℕ) (now : Taken l most held j) where
+  pub taken-more : j < most → Taken l most (set held j (getD l j 0)) (j + 1)
+  taken-more h = record { to = omega arith; entries = rw (now .entries) (cleared-more l j (omega (arith, some .room))) }
+
+  pub taken-all : most ≤ j → held ≡ cleared n l
+  taken-all h =
+      let e : j ≡ most = omega (arith, now .to) in
+      now .entries ∙ rw e (cleared-all l n most some)
 
 -- an entry of a cleared list
 pub cleared-first : (n : ℕ) (l : List ℕ) (i : ℕ) → i < n → i < taskLimit → getD (cleared n l) i 0 ≡ getD l i 0
