@@ -2,9 +2,9 @@
 -- Assumes nothing.
 use Prim.Native.Nat.{ℕ, zero, suc, _≤_}
 use mathlib.Core.Path.{_≡_, refl}
-use mathlib.Core.Bool.{true, false, not}
+use mathlib.Core.Bool.{false, not}
 use mathlib.Core.List.{List}
-use borrow.Author.Tests.{ltb-false, eqb-true, eq-eqb, ne-eqb, not-false}
+use borrow.Author.Tests.{ltb-false, eqb-true, not-false}
 use native.Mathlib.Omega.{arith}
 use lib.Dec.{ltb, eqb}
 use lib.Seq.{getD-take}
@@ -20,17 +20,10 @@ use Rattle.job.specs.declared.Job.{Job}
 use Rattle.job.proofs.Ranges.{job-sound}
 use Rattle.marks.specs.Marks.{badMarks, badStretches}
 use Rattle.marks.proofs.Stretches.{marks-range}
-use Rattle.rules.specs.Rules.{totalLimit, totalOf, marksIn, marksRead, awaits, valueConditions, brokenValues, badAwaiting, overTotal, brokenPlace, broken}
+use Rattle.rules.specs.Rules.{totalLimit, totalOf, marksIn, marksRead, valueConditions, brokenValues, badAwaiting, overTotal, brokenPlace, broken}
 use Rattle.rules.specs.Working.Sound.{SoundRun}
 use Rattle.state.specs.declared.Place.{Place}
 use Rattle.state.specs.declared.Run.{Run}
-
--- the byte that says whether a verification is awaited
-pub awaits-some : (place : Place) → (place .awaiting ≡ 0 → ⊥) → awaits place ≡ true
-awaits-some place h = rw (ne-eqb _ _ h)
-
-pub awaits-none : (place : Place) → place .awaiting ≡ 0 → awaits place ≡ false
-awaits-none place h = rw (eq-eqb _ _ h)
 
 pub job-numbered : (job : Job) → Numbered (jobConditions job)
 unfolding has distinct

@@ -83,24 +83,19 @@ e-growths-requires t c κs =
 
 e-returns : (t : ℕ) → e-lts.Need-returns (e-calls t) (e-at t) e.Post
 e-returns t c =
-    let args = c .before .before .before .args in
     let pre = c .before .before .before .pre .1 in
     let growths = c .before .before .growths in
     record {
-      value = stretch-none (args .job) (pre .stretch .sound) (args .d1) (args .m1) (args .mem) (args .v1) (args .v2) (pre .stretch .end) _ (growths .ensures) (c .if1 .taken);
+      value = stretch-none pre (growths .ensures) (c .if1 .taken);
       cap = omega arith;
     }
 
 e-sub-rounded-up : (t : ℕ) → e-lts.Need-sub-rounded-up (e-calls t) (e-at t) e.Post
 e-sub-rounded-up t c =
-    let args = c .before .before .before .before .args in
     let pre = c .before .before .before .before .pre .1 in
     let growths = c .before .before .before .growths in
     let if1 = c .before .if1 in
-    let ready =
-    stretch-ready (args .job) (pre .stretch .sound) (args .d1) (args .m1) (args .mem) (args .v1) (args .v2) (pre .stretch .end) _ (growths .ensures) (if1 .left)
-    (pre .time) 0 (omega arith)
-    in
+    let ready = stretch-ready pre (growths .ensures) (if1 .left) 0 (omega arith) in
     ready .factors .both
 
 e-rd-at-requires : (t : ℕ) → e-lts.Need-rd-at-requires (e-calls t) (e-at t) e.Post
@@ -115,50 +110,34 @@ e-add-rounded-up t c =
 
 e-mul-rounded-up : (t : ℕ) → e-lts.Need-mul-rounded-up (e-calls t) (e-at t) e.Post
 e-mul-rounded-up t c =
-    let args = c .before .before .before .before .before .args in
     let pre = c .before .before .before .before .before .pre .1 in
     let growths = c .before .before .before .before .growths in
     let if1 = c .before .before .if1 in
-    let ready =
-    stretch-ready (args .job) (pre .stretch .sound) (args .d1) (args .m1) (args .mem) (args .v1) (args .v2) (pre .stretch .end) _ (growths .ensures) (if1 .left)
-    (pre .time) 0 (omega arith)
-    in
+    let ready = stretch-ready pre (growths .ensures) (if1 .left) 0 (omega arith) in
     rw (c .rd-at .ensures .value) (omega (arith, disk-product _ _ _ ready))
 
 e-rounded-up-requires : (t : ℕ) → e-lts.Need-rounded-up-requires (e-calls t) (e-at t) e.Post
 e-rounded-up-requires t c κs =
-    let args = c .before .before .before .before .before .args in
     let pre = c .before .before .before .before .before .pre .1 in
     let growths = c .before .before .before .before .growths in
     let if1 = c .before .before .if1 in
-    let ready =
-    stretch-ready (args .job) (pre .stretch .sound) (args .d1) (args .m1) (args .mem) (args .v1) (args .v2) (pre .stretch .end) _ (growths .ensures) (if1 .left)
-    (pre .time) 0 (omega arith)
-    in
+    let ready = stretch-ready pre (growths .ensures) (if1 .left) 0 (omega arith) in
     rw (c .rd-at .ensures .value) (omega (arith, disk-product _ _ _ ready))
 
 e-add-result : (t : ℕ) → e-lts.Need-add-result (e-calls t) (e-at t) e.Post
 e-add-result t c =
-    let args = c .before .before .before .before .before .before .before .args in
     let pre = c .before .before .before .before .before .before .before .pre .1 in
     let growths = c .before .before .before .before .before .before .growths in
     let if1 = c .before .before .before .before .if1 in
-    let ready =
-    stretch-ready (args .job) (pre .stretch .sound) (args .d1) (args .m1) (args .mem) (args .v1) (args .v2) (pre .stretch .end) _ (growths .ensures) (if1 .left)
-    (pre .time) 0 (omega arith)
-    in
+    let ready = stretch-ready pre (growths .ensures) (if1 .left) 0 (omega arith) in
     rw (c .before .rounded-up .ensures, c .before .before .rd-at .ensures .value) (omega (arith, ready .factors .work, disk-part _ _ _ ready))
 
 e-sub-rounded-up-2 : (t : ℕ) → e-lts.Need-sub-rounded-up-2 (e-calls t) (e-at t) e.Post
 e-sub-rounded-up-2 t c =
-    let args = c .before .before .before .before .before .before .before .before .args in
     let pre = c .before .before .before .before .before .before .before .before .pre .1 in
     let growths = c .before .before .before .before .before .before .before .growths in
     let if1 = c .before .before .before .before .before .if1 in
-    let ready =
-    stretch-ready (args .job) (pre .stretch .sound) (args .d1) (args .m1) (args .mem) (args .v1) (args .v2) (pre .stretch .end) _ (growths .ensures) (if1 .left)
-    (pre .time) 0 (omega arith)
-    in
+    let ready = stretch-ready pre (growths .ensures) (if1 .left) 0 (omega arith) in
     omega (arith, ready .factors .silent, ready .factors .both)
 
 e-e-verif-requires : (t : ℕ) → e-lts.Need-e-verif-requires (e-calls t) (e-at t) e.Post
@@ -176,41 +155,29 @@ e-e-verif-requires t c κs =
 
 e-mul-rounded-up-2 : (t : ℕ) → e-lts.Need-mul-rounded-up-2 (e-calls t) (e-at t) e.Post
 e-mul-rounded-up-2 t c =
-    let args = c .before .before .before .before .before .before .before .before .before .before .args in
     let pre = c .before .before .before .before .before .before .before .before .before .before .pre .1 in
     let growths = c .before .before .before .before .before .before .before .before .before .growths in
     let if1 = c .before .before .before .before .before .before .before .if1 in
     let e-verif = c .before .e-verif in
-    let ready =
-    stretch-ready (args .job) (pre .stretch .sound) (args .d1) (args .m1) (args .mem) (args .v1) (args .v2) (pre .stretch .end) _ (growths .ensures) (if1 .left)
-    (pre .time) (e-verif .result .time) (e-verif .ensures .cap)
-    in
+    let ready = stretch-ready pre (growths .ensures) (if1 .left) (e-verif .result .time) (e-verif .ensures .cap) in
     omega (arith, again-product _ _ _ ready)
 
 e-rounded-up-requires-2 : (t : ℕ) → e-lts.Need-rounded-up-requires-2 (e-calls t) (e-at t) e.Post
 e-rounded-up-requires-2 t c κs =
-    let args = c .before .before .before .before .before .before .before .before .before .before .args in
     let pre = c .before .before .before .before .before .before .before .before .before .before .pre .1 in
     let growths = c .before .before .before .before .before .before .before .before .before .growths in
     let if1 = c .before .before .before .before .before .before .before .if1 in
     let e-verif = c .before .e-verif in
-    let ready =
-    stretch-ready (args .job) (pre .stretch .sound) (args .d1) (args .m1) (args .mem) (args .v1) (args .v2) (pre .stretch .end) _ (growths .ensures) (if1 .left)
-    (pre .time) (e-verif .result .time) (e-verif .ensures .cap)
-    in
+    let ready = stretch-ready pre (growths .ensures) (if1 .left) (e-verif .result .time) (e-verif .ensures .cap) in
     omega (arith, again-product _ _ _ ready)
 
 e-add-result-2 : (t : ℕ) → e-lts.Need-add-result-2 (e-calls t) (e-at t) e.Post
 e-add-result-2 t c =
-    let args = c .before .before .before .before .before .before .before .before .before .before .before .args in
     let pre = c .before .before .before .before .before .before .before .before .before .before .before .pre .1 in
     let growths = c .before .before .before .before .before .before .before .before .before .before .growths in
     let if1 = c .before .before .before .before .before .before .before .before .if1 in
     let e-verif = c .before .before .e-verif in
-    let ready =
-    stretch-ready (args .job) (pre .stretch .sound) (args .d1) (args .m1) (args .mem) (args .v1) (args .v2) (pre .stretch .end) _ (growths .ensures) (if1 .left)
-    (pre .time) (e-verif .result .time) (e-verif .ensures .cap)
-    in
+    let ready = stretch-ready pre (growths .ensures) (if1 .left) (e-verif .result .time) (e-verif .ensures .cap) in
     let rounded-up = c .before .before .before .before .before .rounded-up in
     let rd-at = c .before .before .before .before .before .before .rd-at in
     rw (rounded-up .ensures, rd-at .ensures .value, c .rounded-up2 .ensures)
@@ -218,14 +185,10 @@ e-add-result-2 t c =
 
 e-sub-rounded-up-3 : (t : ℕ) → e-lts.Need-sub-rounded-up-3 (e-calls t) (e-at t) e.Post
 e-sub-rounded-up-3 t c =
-    let args = c .before .before .before .before .before .before .before .before .before .before .before .before .args in
     let pre = c .before .before .before .before .before .before .before .before .before .before .before .before .pre .1 in
     let growths = c .before .before .before .before .before .before .before .before .before .before .before .growths in
     let if1 = c .before .before .before .before .before .before .before .before .before .if1 in
-    let ready =
-    stretch-ready (args .job) (pre .stretch .sound) (args .d1) (args .m1) (args .mem) (args .v1) (args .v2) (pre .stretch .end) _ (growths .ensures) (if1 .left)
-    (pre .time) 0 (omega arith)
-    in
+    let ready = stretch-ready pre (growths .ensures) (if1 .left) 0 (omega arith) in
     ready .factors .silent
 
 e-rm-at-requires : (t : ℕ) → e-lts.Need-rm-at-requires (e-calls t) (e-at t) e.Post
@@ -235,39 +198,27 @@ e-rm-at-requires t c κs =
 
 e-mul-rounded-up-3 : (t : ℕ) → e-lts.Need-mul-rounded-up-3 (e-calls t) (e-at t) e.Post
 e-mul-rounded-up-3 t c =
-    let args = c .before .before .before .before .before .before .before .before .before .before .before .before .before .args in
     let pre = c .before .before .before .before .before .before .before .before .before .before .before .before .before .pre .1 in
     let growths = c .before .before .before .before .before .before .before .before .before .before .before .before .growths in
     let if1 = c .before .before .before .before .before .before .before .before .before .before .if1 in
-    let ready =
-    stretch-ready (args .job) (pre .stretch .sound) (args .d1) (args .m1) (args .mem) (args .v1) (args .v2) (pre .stretch .end) _ (growths .ensures) (if1 .left)
-    (pre .time) 0 (omega arith)
-    in
+    let ready = stretch-ready pre (growths .ensures) (if1 .left) 0 (omega arith) in
     rw (c .rm-at .ensures .value) (omega (arith, memory-product _ _ _ ready))
 
 e-rounded-up-requires-3 : (t : ℕ) → e-lts.Need-rounded-up-requires-3 (e-calls t) (e-at t) e.Post
 e-rounded-up-requires-3 t c κs =
-    let args = c .before .before .before .before .before .before .before .before .before .before .before .before .before .args in
     let pre = c .before .before .before .before .before .before .before .before .before .before .before .before .before .pre .1 in
     let growths = c .before .before .before .before .before .before .before .before .before .before .before .before .growths in
     let if1 = c .before .before .before .before .before .before .before .before .before .before .if1 in
-    let ready =
-    stretch-ready (args .job) (pre .stretch .sound) (args .d1) (args .m1) (args .mem) (args .v1) (args .v2) (pre .stretch .end) _ (growths .ensures) (if1 .left)
-    (pre .time) 0 (omega arith)
-    in
+    let ready = stretch-ready pre (growths .ensures) (if1 .left) 0 (omega arith) in
     rw (c .rm-at .ensures .value) (omega (arith, memory-product _ _ _ ready))
 
 e-add-result-3 : (t : ℕ) → e-lts.Need-add-result-3 (e-calls t) (e-at t) e.Post
 e-add-result-3 t c =
-    let args = c .before .before .before .before .before .before .before .before .before .before .before .before .before .before .args in
     let pre = c .before .before .before .before .before .before .before .before .before .before .before .before .before .before .pre .1 in
     let growths = c .before .before .before .before .before .before .before .before .before .before .before .before .before .growths in
     let if1 = c .before .before .before .before .before .before .before .before .before .before .before .if1 in
     let e-verif = c .before .before .before .before .before .e-verif in
-    let ready =
-    stretch-ready (args .job) (pre .stretch .sound) (args .d1) (args .m1) (args .mem) (args .v1) (args .v2) (pre .stretch .end) _ (growths .ensures) (if1 .left)
-    (pre .time) (e-verif .result .time) (e-verif .ensures .cap)
-    in
+    let ready = stretch-ready pre (growths .ensures) (if1 .left) (e-verif .result .time) (e-verif .ensures .cap) in
     let rounded-up = c .before .before .before .before .before .before .before .before .rounded-up in
     let rounded-up2 = c .before .before .before .rounded-up2 in
     let rounded-up3 = c .rounded-up3 in
@@ -279,23 +230,17 @@ e-add-result-3 t c =
 e-returns-2 : (t : ℕ) → e-lts.Need-returns-2 (e-calls t) (e-at t) e.Post
 unfolding stretchOf
 e-returns-2 t c =
-    let args = c .before .before .before .before .before .before .before .before .before .before .before .before .before .before .args in
     let pre = c .before .before .before .before .before .before .before .before .before .before .before .before .before .before .pre .1 in
     let growths = c .before .before .before .before .before .before .before .before .before .before .before .before .before .growths in
     let if1 = c .before .before .before .before .before .before .before .before .before .before .before .if1 in
     let e-verif = c .before .before .before .before .before .e-verif in
-    let ready =
-    stretch-ready (args .job) (pre .stretch .sound) (args .d1) (args .m1) (args .mem) (args .v1) (args .v2) (pre .stretch .end) _ (growths .ensures) (if1 .left)
-    (pre .time) (e-verif .result .time) (e-verif .ensures .cap)
-    in
+    let ready = stretch-ready pre (growths .ensures) (if1 .left) (e-verif .result .time) (e-verif .ensures .cap) in
     let rounded-up = c .before .before .before .before .before .before .before .before .rounded-up in
     let rounded-up2 = c .before .before .before .rounded-up2 in
     let rounded-up3 = c .rounded-up3 in
     let rd-at = c .before .before .before .before .before .before .before .before .before .rd-at in
     let rm-at = c .before .rm-at in
-    let whole =
-    stretch-some (args .job) (pre .stretch .sound) (args .d1) (args .m1) (args .mem) (args .v1) (args .v2) (pre .stretch .end) _ (growths .ensures) (if1 .left)
-    in
+    let whole = stretch-some pre (growths .ensures) (if1 .left) in
     rw (rounded-up .ensures, rd-at .ensures .value, rounded-up2 .ensures, rounded-up3 .ensures, rm-at .ensures .value)
     (record {
       value = rw (e-verif .ensures .value) whole;
