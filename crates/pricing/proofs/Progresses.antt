@@ -25,8 +25,8 @@ use Rattle.job.proofs.Weights.{between-range}
 use Rattle.costs.specs.Costs.{cmAt, cdAt}
 use Rattle.costs.specs.Stretch.{chainOf, timeOf}
 use Rattle.costs.proofs.Stretches.{S-factors}
-use Rattle.pricing.specs.Working.Progress.{arrivalOf, pastMark, weighed, CarriedTo}
-use Rattle.pricing.specs.declared.Progress.{Progress}
+use Rattle.progress.specs.Working.Progress.{arrivalOf, pastMark, weighed, CarriedTo}
+use Rattle.progress.specs.declared.Progress.{Progress}
 
 pub record Progresses (job : Job) (l : List ℕ) (j : ℕ) (s : Progress) : Type 0 where
   pub weight : s .weight ≡ running (job .weights) (marksOf l) j

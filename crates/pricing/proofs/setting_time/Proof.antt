@@ -1,7 +1,7 @@
 -- `pricing::setting_time` meets its contract. The loop's invariant: what is carried to the next position is the definition's, unless the limit was passed, and
 -- then D(n) passes it too.
 -- The measure is what is left of the tasks. Assumes nothing.
-use Rattle.pricing.specs.declared.Progress.{Progress}
+use Rattle.progress.specs.declared.Progress.{Progress}
 use Rattle.job.specs.declared.Job.{Job}
 use mathlib.Core.List.{List}
 use Prim.Native.Nat.{ℕ, _+_, _-_, _≤_, _<_}

@@ -1,13 +1,13 @@
--- `pricing::arrival` meets its contract. An allowed stretch has growth sums within the caps, and what is carried is below the limit, so that no product wraps.
+-- `progress::arrival` meets its contract. An allowed stretch has growth sums within the caps, and what is carried is below the limit, so that no product wraps.
 -- Assumes nothing.
 use native.Mathlib.Nat.{le-trans}
 use native.Mathlib.Omega.{arith}
 use Rattle.costs.proofs.Ranges.{vAt-range, rdAt-range, rmAt-range, factors-bounded}
 use Rattle.costs.specs.Working.Factors.{ReadyForFactors}
-use Rattle.pricing.specs.Working.Progress.{arrivalOf}
+use Rattle.progress.specs.Working.Progress.{arrivalOf}
 use borrow.Author.Needs.{needs}
-use Rattle.pricing.proofs.arrival.Statement.{statement}
-use Rattle.pricing.proofs.arrival.Tie as tie
+use Rattle.progress.proofs.arrival.Statement.{statement}
+use Rattle.progress.proofs.arrival.Tie as tie
 
 v-at-requires : tie.Need-v-at-requires
 v-at-requires c κs = c .pre .carried .position

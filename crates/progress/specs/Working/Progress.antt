@@ -1,21 +1,18 @@
--- How the price is worked out, task by task: what is carried from one position to the next, and how far its numbers may go. `Progresses` (proofs) ties it to Q,
--- M and D.
+-- How a price is worked out, task by task: what is carried from one position to the next, and how far its numbers may go. `Progresses` (of `pricing`) ties it to
+-- Q, M and D.
 use Prim.Native.Nat.{ℕ, _+_, _≤_, _<_, _^_}
 use mathlib.Core.Path.{_≡_}
 use mathlib.Core.Bool.{true, cond}
-use mathlib.Core.List.{List}
 use Rattle.units.specs.Limits.{costLimit, none, taskLimit}
-use Rattle.refusals.specs.Refusals.{first}
 use Rattle.chain.specs.Time.{disk}
 use Rattle.chain.specs.Working.Factors.{stretchOf}
 use Rattle.job.specs.Job.{isAllowed}
-use Rattle.job.specs.Working.Sound.{CostsBounded, Sound}
+use Rattle.job.specs.Working.Sound.{CostsBounded}
 use Rattle.job.specs.declared.Job.{Job}
-use Rattle.marks.specs.Marks.{marksConditions}
 use Rattle.marks.specs.Pays.{paysOf}
 use Rattle.costs.specs.Costs.{vAt, cmAt, cdAt, rdAt, rmAt}
 use Rattle.costs.specs.Working.Factors.{factorsOf}
-use Rattle.pricing.specs.declared.Progress.{Progress}
+use Rattle.progress.specs.declared.Progress.{Progress}
 
 -- Q(v) from what is carried to v
 unfoldable pub arrivalOf : Job → Progress → ℕ → ℕ
@@ -78,8 +75,3 @@ pub record ReadyForMark (job : Job) (s : Progress) (v mark : ℕ) : Type 0 where
 pub record Passed (job : Job) (s : Progress) (v mark : ℕ) (r : Progress) : Type 0 where
   pub value : r ≡ pastMark job s v mark
   pub cap : r .dt + r .mt + r .q ≤ progressCap
-
--- values that passed checks 3, 7 and 8, and marks that passed 9 and 10
-pub record ReadyForTime (job : Job) (l : List ℕ) : Type 0 where
-  pub sound : Sound job
-  pub marks : first (marksConditions job l) ≡ 0

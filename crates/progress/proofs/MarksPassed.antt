@@ -6,8 +6,8 @@ use native.Mathlib.Omega.{arith}
 use Rattle.job.specs.declared.Job.{Job}
 use Rattle.marks.specs.Pays.{paysOf, table}
 use Rattle.costs.specs.Costs.{cmAt, cdAt}
-use Rattle.pricing.specs.Working.Progress.{arrivalOf, pastMark}
-use Rattle.pricing.specs.declared.Progress.{Progress}
+use Rattle.progress.specs.Working.Progress.{arrivalOf, pastMark}
+use Rattle.progress.specs.declared.Progress.{Progress}
 
 -- only a mark pays for a verification
 pub pays-marked : (k : ℕ) → paysOf k .v ≡ true → 0 < k

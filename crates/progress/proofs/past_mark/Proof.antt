@@ -1,12 +1,12 @@
--- `pricing::past_mark` meets its contract. The mark's payments decide, row by row of the table. Assumes nothing.
+-- `progress::past_mark` meets its contract. The mark's payments decide, row by row of the table. Assumes nothing.
 use mathlib.Core.Path.{ap, sym, _∙_}
 use native.Mathlib.Omega.{arith}
 use borrow.Author.Tests.{not-true, not-false}
 use Rattle.marks.specs.declared.Pays.{Pays}
-use Rattle.pricing.proofs.Steps.{pays-marked, past-plain, past-verified, past-copied, past-stored}
+use Rattle.progress.proofs.MarksPassed.{pays-marked, past-plain, past-verified, past-copied, past-stored}
 use borrow.Author.Needs.{needs}
-use Rattle.pricing.proofs.past_mark.Statement.{statement}
-use Rattle.pricing.proofs.past_mark.Tie as tie
+use Rattle.progress.proofs.past_mark.Statement.{statement}
+use Rattle.progress.proofs.past_mark.Tie as tie
 
 payments-requires : tie.Need-payments-requires
 payments-requires c κs = search needs
