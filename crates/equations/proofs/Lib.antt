@@ -1,6 +1,4 @@
--- The laws of the equations that the crate's own proofs and the crates above cite; `Theorems` has what follows for callers.
+-- The laws of the equations that the crate's own proofs and the crates above cite.
 pub mod Minima
+pub mod Stretches
 pub mod Page
-pub mod Levels
-pub mod Answers
-pub mod Theorems

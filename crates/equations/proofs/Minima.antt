@@ -1,7 +1,7 @@
 -- The least times that the plan's theorem knows are the min of the printed equations, and its positions before are the earliest at which that min is reached.
 -- Assumes nothing.
 use Prim.Native.Nat.{ℕ, min, _+_, _≤_, _<_}
-use mathlib.Core.Path.{_≡_, refl, _∙_}
+use mathlib.Core.Path.{_≡_, refl, sym, _∙_}
 use mathlib.Core.Logic.{_⊎_, inl, inr}
 use mathlib.Core.Bool.{Bool, true, false}
 use native.Mathlib.Decide.{decLe, decLt, ℕ-discrete}
@@ -10,9 +10,9 @@ use borrow.Author.Tests.{lt-ltb, le-ltb}
 use Rattle.chain.specs.Chain.{Chain}
 use Rattle.chain.specs.Working.Search.{Cost, reach, way, back, toVerification, leastQ, toMemory, leastM, toDisk, leastD, backD, backM, backQ, bestQ}
 use Rattle.chain.proofs.Search.{IsBack, least-le, reach-is, reach-cap, way-is, back-is, back-from, back-first}
-use Rattle.equations.specs.declared.walk.Best.{Best}
-use Rattle.equations.specs.Working.Places.{lesser}
-use Rattle.equations.specs.Equations.{Attained, IsMin, IsEarliest, byDisk, byMemory, byVerification}
+use Rattle.equations.specs.declared.Least.{Least}
+use Rattle.equations.specs.Working.Ready.{lesser}
+use Rattle.equations.specs.Equations.{Attained, IsMin, IsEarliest, LevelEquation, byDisk, byMemory, byVerification, DiskEquation, MemoryEquation, VerificationEquation}
 
 -- a min over nothing, over one position more, and no other
 module _ (N a : ℕ) (f : ℕ → ℕ) where
@@ -45,49 +45,67 @@ module _ (N a : ℕ) (f : ℕ → ℕ) where
       go (no l) (yes k) = absurd (not-below s t j i k)
       go (no l) (no k) = omega arith
 
--- the min over the positions offered so far, and the earliest that gives it
-pub record Sought (N a k : ℕ) (f : ℕ → ℕ) (best : Best) : Type 0 where
-  pub least : IsMin N a k f (best .time)
-  pub earliest : best .time < N → IsEarliest a k f (best .time) (best .at)
+-- The loop's invariant at each level: of the positions from a to before k, where a <= k <= b, the least time and the earliest that gives it.
+pub record Offered (N a b k : ℕ) (f : ℕ → ℕ) (least : Least) : Type 0 where
+  pub from : a ≤ k
+  pub to : k ≤ b
+  pub min : IsMin N a k f (least .time)
+  pub earliest : least .time < N → IsEarliest a k f (least .time) (least .at)
 
-module _ (N a : ℕ) (f : ℕ → ℕ) where
-  pub sought-first : (u : ℕ) → Sought N a a f (record { time = N; at = u })
-  sought-first u = record { least = min-first N a f; earliest = λ h. absurd (omega arith) }
+module _ (N a b : ℕ) (f : ℕ → ℕ) where
+  pub offered-first : (u : ℕ) → a ≤ b → Offered N a b a f (record { time = N; at = u })
+  offered-first u h = record { from = omega arith; to = h; min = min-first N a f; earliest = λ l. absurd (omega arith) }
 
-  module _ (k : ℕ) (best : Best) (h : a ≤ k) (s : Sought N a k f best) where
+  module _ (k : ℕ) (least : Least) (o : Offered N a b k f least) (h : k < b) where
     -- a lesser time is the new least, and its position the only one
-    sought-new : f k < best .time → Sought N a (k + 1) f (record { time = f k; at = k })
-    sought-new l =
-        let m : min (best .time) (f k) ≡ f k = omega arith in
+    offered-new : f k < least .time → Offered N a b (k + 1) f (record { time = f k; at = k })
+    offered-new l =
+        let m : min (least .time) (f k) ≡ f k = omega arith in
         record {
-          least = rw m at (min-more N a f k (best .time) h (s .least));
-          earliest = λ _. record { from = h; before = omega arith; value = refl; first = λ w p q. omega (arith, s .least .lower w p q) };
+          from = omega (arith, o .from);
+          to = omega arith;
+          min = rw m at (min-more N a f k (least .time) (o .from) (o .min));
+          earliest = λ _. record { from = o .from; before = omega arith; value = refl; first = λ w p q. omega (arith, o .min .lower w p q) };
         }
 
     -- any other, a tie too, changes nothing
-    sought-old : best .time ≤ f k → Sought N a (k + 1) f best
-    sought-old l =
-        let m : min (best .time) (f k) ≡ best .time = omega arith in
+    offered-old : least .time ≤ f k → Offered N a b (k + 1) f least
+    offered-old l =
+        let m : min (least .time) (f k) ≡ least .time = omega arith in
         record {
-          least = rw m at (min-more N a f k (best .time) h (s .least));
+          from = omega (arith, o .from);
+          to = omega arith;
+          min = rw m at (min-more N a f k (least .time) (o .from) (o .min));
           earliest =
               λ z.
-              let i = s .earliest z in
+              let i = o .earliest z in
               record { from = i .from; before = omega (arith, i .before); value = i .value; first = i .first };
         }
 
-    pub sought-more : Sought N a (k + 1) f (lesser best k (f k))
-    sought-more = go (decLt (f k) (best .time))
+    pub offered-more : Offered N a b (k + 1) f (lesser least k (f k))
+    offered-more = go (decLt (f k) (least .time))
       where
-        go : Dec (f k < best .time) → Sought N a (k + 1) f (lesser best k (f k))
-        go (yes l) = rw (lt-ltb (f k) (best .time) l) (sought-new l)
-        go (no l) = rw (le-ltb (f k) (best .time) (omega arith)) (sought-old (omega arith))
+        go : Dec (f k < least .time) → Offered N a b (k + 1) f (lesser least k (f k))
+        go (yes l) = rw (lt-ltb (f k) (least .time) l) (offered-new l)
+        go (no l) = rw (le-ltb (f k) (least .time) (omega arith)) (offered-old (omega arith))
 
-  -- at the end it is the earliest that gives the least time
-  pub sought-last : (b t : ℕ) (best : Best) → Sought N a b f best → IsMin N a b f t → t < N → IsEarliest a b f t (best .at)
-  sought-last b t best s i l =
-      let e : best .time ≡ t = min-once N a f b (best .time) t (s .least) i in
-      rw e at (s .earliest (omega arith))
+  -- what a level gives: past all positions, and at its start
+  pub level-found : (value k : ℕ) (least : Least) → a < b → IsMin N a b f value → Offered N a b k f least → b ≤ k
+      → LevelEquation N a b f value (least .time) (least .at)
+  level-found value k least h i o l =
+      let e : k ≡ b = omega (arith, o .to) in
+      let all : Offered N a b b f least = rw e at o in
+      record {
+        value = min-once N a f b (least .time) value (all .min) i;
+        cap = all .min .cap;
+        start = λ z. absurd (omega arith);
+        least = λ _. all .min;
+        earliest = λ _. all .earliest;
+      }
+
+pub level-start : (N a : ℕ) (f : ℕ → ℕ) (value u : ℕ) → value ≡ 0 → LevelEquation N a a f value 0 u
+level-start N a f value u e =
+    record { value = sym e; cap = omega arith; start = λ _. refl; least = λ h. absurd (omega arith); earliest = λ h. absurd (omega arith) }
 
 -- x and y are the same time, or both are N or more
 abbrev pub Alike : ℕ → ℕ → ℕ → Type 0
@@ -131,7 +149,7 @@ module _ (N b : ℕ) (cost : Cost) (v : ℕ) (f : ℕ → ℕ) (arrivals : Arriv
           record { u = back N b cost v; from = i .starts; before = i .falls; value = back-value (back N b cost v) i l }
 
   -- the earliest position with the least time is the one before
-  pub earliest-back : (u : ℕ) → here < N → IsEarliest b v f here u → u ≡ back N b cost v
+  earliest-back : (u : ℕ) → here < N → IsEarliest b v f here u → u ≡ back N b cost v
   earliest-back u l e = go (decLt (back N b cost v) u)
     where
       first : back N b cost v ≤ u
@@ -145,6 +163,9 @@ module _ (N b : ℕ) (cost : Cost) (v : ℕ) (f : ℕ → ℕ) (arrivals : Arriv
           let i = back-is N b cost v (omega arith) l in
           absurd (omega (arith, e .first (back N b cost v) (i .starts) k, back-value (back N b cost v) i l))
       go (no k) = omega (arith, first)
+
+  pub level-back : (t u : ℕ) → here < N → LevelEquation N b v f here t u → u ≡ back N b cost v
+  level-back t u l q = earliest-back u l (rw (q .value) at (q .earliest h (omega (arith, q .value))))
 
 -- the three levels
 module _ (c : Chain) (N : ℕ) where
@@ -178,18 +199,17 @@ module _ (c : Chain) (N : ℕ) where
   verification-min d1 m1 mem v2 h = reach-min N m1 (toVerification c N d1 m1 mem) v2 (byVerification c N d1 m1 mem v2) (verification-arrivals d1 m1 mem v2) h
 
   -- the earliest positions that give these are the plan's
-  pub disk-earliest : (d2 u : ℕ) → 0 < d2 → leastD c N d2 < N → IsEarliest 0 d2 (byDisk c N d2) (leastD c N d2) u → u ≡ backD c N d2
+  pub disk-back : (d2 t u : ℕ) → 0 < d2 → leastD c N d2 < N → DiskEquation c N d2 t u → u ≡ backD c N d2
   unfolding leastD backD
-  disk-earliest d2 u h l e = earliest-back N 0 (toDisk c N) d2 (byDisk c N d2) (disk-arrivals d2) h u l e
+  disk-back d2 t u h l q = level-back N 0 (toDisk c N) d2 (byDisk c N d2) (disk-arrivals d2) h t u l q
 
-  pub memory-earliest : (d1 m2 u : ℕ) → d1 < m2 → leastM c N d1 m2 < N → IsEarliest d1 m2 (byMemory c N d1 m2) (leastM c N d1 m2) u
-      → u ≡ backM c N d1 m2
+  pub memory-back : (d1 m2 t u : ℕ) → d1 < m2 → leastM c N d1 m2 < N → MemoryEquation c N d1 m2 t u → u ≡ backM c N d1 m2
   unfolding leastM backM
-  memory-earliest d1 m2 u h l e = earliest-back N d1 (toMemory c N d1) m2 (byMemory c N d1 m2) (memory-arrivals d1 m2) h u l e
+  memory-back d1 m2 t u h l q = level-back N d1 (toMemory c N d1) m2 (byMemory c N d1 m2) (memory-arrivals d1 m2) h t u l q
 
-  pub verification-earliest : (d1 m1 v2 u : ℕ) → m1 < v2 → bestQ c N d1 m1 v2 < N
-      → IsEarliest m1 v2 (byVerification c N d1 m1 (leastM c N d1 m1) v2) (bestQ c N d1 m1 v2) u → u ≡ backQ c N d1 m1 v2
+  pub verification-back : (d1 m1 v2 t u : ℕ) → m1 < v2 → bestQ c N d1 m1 v2 < N → VerificationEquation c N d1 m1 (leastM c N d1 m1) v2 t u
+      → u ≡ backQ c N d1 m1 v2
   unfolding leastQ backQ
-  verification-earliest d1 m1 v2 u h l e =
-      earliest-back N m1 (toVerification c N d1 m1 (leastM c N d1 m1)) v2 (byVerification c N d1 m1 (leastM c N d1 m1) v2)
-      (verification-arrivals d1 m1 (leastM c N d1 m1) v2) h u l e
+  verification-back d1 m1 v2 t u h l q =
+      level-back N m1 (toVerification c N d1 m1 (leastM c N d1 m1)) v2 (byVerification c N d1 m1 (leastM c N d1 m1) v2)
+      (verification-arrivals d1 m1 (leastM c N d1 m1) v2) h t u l q

@@ -6,6 +6,7 @@ use Prim.Native.Nat.{ℕ, _+_, _≤_, _<_}
 use mathlib.Core.Path.{_≡_}
 use mathlib.Core.Bool.{cond}
 use Rattle.chain.specs.Chain.{Chain}
+use Rattle.chain.specs.Working.Factors.{stretchCap}
 use Rattle.chain.specs.Working.Search.{leastQ, leastM, leastD}
 
 -- some u of a <= u < b has f(u) = t
@@ -27,6 +28,14 @@ pub record IsEarliest (a b : ℕ) (f : ℕ → ℕ) (t u : ℕ) : Type 0 where
   pub before : u < b
   pub value : f u ≡ t
   pub first : (w : ℕ) → a ≤ w → w < u → t < f w
+
+-- a level's time t is exact, 0 at its start a, else the min of f over a <= u < b, cut off at N; and u is the earliest position that gives it, if it is below N
+pub record LevelEquation (N a b : ℕ) (f : ℕ → ℕ) (exact t u : ℕ) : Type 0 where
+  pub value : t ≡ exact
+  pub cap : t ≤ N
+  pub start : b ≡ a → t ≡ 0
+  pub least : a < b → IsMin N a b f t
+  pub earliest : a < b → t < N → IsEarliest a b f t u
 
 -- The page: four functions that keep the equations of section 3.1 at all positions d_1 <= m_1 <= v_1 < v_2. At these no other four do (`equations-determine`).
 pub record Equations (c : Chain) (N : ℕ) (E-disk : (d2 : ℕ) → ℕ) (E-mem : (d1 m2 : ℕ) → ℕ) (E-verif : (d1 m1 v2 : ℕ) → ℕ) (E : (d1 m1 v1 v2 : ℕ) → ℕ) : Type 0 where
@@ -71,24 +80,23 @@ module _ (c : Chain) (N : ℕ) where
   abbrev pub byVerification : (d1 m1 mem v2 v1 : ℕ) → ℕ
   byVerification d1 m1 mem v2 v1 = E-verif d1 m1 mem v1 + E d1 m1 mem v1 v2
 
-  -- What each function gives: the value, and its equation.
+  -- What each function gives.
   -- E_disk(d_2)
-  pub record DiskEquation (d2 t : ℕ) : Type 0 where
-    pub value : t ≡ E-disk d2
-    pub start : d2 ≡ 0 → t ≡ 0
-    pub least : 0 < d2 → IsMin N 0 d2 (byDisk d2) t
+  abbrev pub DiskEquation : (d2 t u : ℕ) → Type 0
+  DiskEquation d2 t u = LevelEquation N 0 d2 (byDisk d2) (E-disk d2) t u
 
   -- E_mem(d_1, m_2)
-  pub record MemoryEquation (d1 m2 t : ℕ) : Type 0 where
-    pub value : t ≡ E-mem d1 m2
-    pub start : m2 ≡ d1 → t ≡ 0
-    pub least : d1 < m2 → IsMin N d1 m2 (byMemory d1 m2) t
+  abbrev pub MemoryEquation : (d1 m2 t u : ℕ) → Type 0
+  MemoryEquation d1 m2 t u = LevelEquation N d1 m2 (byMemory d1 m2) (E-mem d1 m2) t u
 
   -- E_verif(d_1, m_1, v_2), equation (1)
-  pub record VerificationEquation (d1 m1 mem v2 t : ℕ) : Type 0 where
-    pub value : t ≡ E-verif d1 m1 mem v2
-    pub start : v2 ≡ m1 → t ≡ 0
-    pub least : m1 < v2 → IsMin N m1 v2 (byVerification d1 m1 mem v2) t
+  abbrev pub VerificationEquation : (d1 m1 mem v2 t u : ℕ) → Type 0
+  VerificationEquation d1 m1 mem v2 t u = LevelEquation N m1 v2 (byVerification d1 m1 mem v2) (E-verif d1 m1 mem v2) t u
+
+  -- E(d_1, m_1, v_1, v_2), equation (4); none, or a time within the cap of S
+  pub record StretchEquation (d1 m1 mem v1 v2 t : ℕ) : Type 0 where
+    pub value : t ≡ E d1 m1 mem v1 v2
+    pub cap : t ≤ stretchCap
 
 -- four functions have the values of those above
 pub record SameTimes (c : Chain) (N : ℕ) (F-disk : (d2 : ℕ) → ℕ) (F-mem : (d1 m2 : ℕ) → ℕ) (F-verif : (d1 m1 v2 : ℕ) → ℕ) (F : (d1 m1 v1 v2 : ℕ) → ℕ) : Type 0 where

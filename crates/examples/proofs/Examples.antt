@@ -28,9 +28,11 @@ use Rattle.pricing.specs.Price.{priceRefusal, priceOf}
 use Rattle.powers.specs.Powers.{outOfRange, passes, badComputing, savingPasses, badSaving, badPowers}
 use Rattle.planning.specs.Energy.{energyRefusal, PlansByEnergy}
 use Rattle.planning.proofs.ByEnergy.{energy-least}
-use Rattle.state.specs.State.{cleared, fresh, zeroRun, totalOf, brokenValues, badAwaiting, overTotal, brokenPlace, broken, finished}
-use Rattle.following.specs.Run.{afterDone, afterPassed, backToMemory, backToDisk, placeAfter, nextPlace, outOfTurn, overWeight, stepRefusal, stepOf}
-use Rattle.following.specs.Start.{startRefusal, startOf}
+use Rattle.state.specs.State.{cleared, fresh, zeroRun}
+use Rattle.rules.specs.Rules.{totalOf, brokenValues, badAwaiting, overTotal, brokenPlace, broken, finished}
+use Rattle.events.specs.Events.{afterDone, afterPassed, backToMemory, backToDisk, placeAfter}
+use Rattle.following.specs.Run.{nextPlace, outOfTurn, overWeight, stepRefusal, stepOf}
+use Rattle.starting.specs.Start.{startRefusal, startOf}
 use Rattle.history.specs.Events.{steps}
 use Rattle.examples.specs.Starred.{
   headerA,
@@ -72,7 +74,7 @@ unfolding up
     S chainOf timeOf
     energyS energyChain energyOf
     priceRefusal priceOf
-    outOfRange passes badComputing savingPasses some badSaving badPowers energyRefusal
+    outOfRange passes badComputing savingPasses badSaving badPowers energyRefusal
     cleared fresh zeroRun totalOf brokenValues badAwaiting overTotal brokenPlace broken finished
     afterDone afterPassed backToMemory backToDisk placeAfter nextPlace outOfTurn overWeight stepRefusal stepOf
     startRefusal startOf

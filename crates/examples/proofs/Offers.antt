@@ -33,7 +33,7 @@ use Rattle.costs.specs.declared.Powers.{Powers}
 use Rattle.costs.proofs.Stretches.{S-rises, energy-rises}
 use Rattle.costs.proofs.Dearer.{each, raised-by}
 use Rattle.pricing.specs.Price.{priceRefusal, priceOf}
-use Rattle.pricing.proofs.Dearer.{booking-holds}
+use Rattle.dearer.proofs.Dearer.{booking-holds}
 use Rattle.answers.specs.Promise.{PlansChecked, Free}
 use Rattle.planning.specs.Promise.{Plans}
 use Rattle.powers.specs.Powers.{outOfRange, passes, badComputing, savingPasses, badSaving, badPowers}
@@ -161,7 +161,7 @@ unfolding up
     energyS energyChain
     costOf
     priceRefusal priceOf
-    outOfRange passes badComputing savingPasses some badSaving badPowers energyRefusal
+    outOfRange passes badComputing savingPasses badSaving badPowers energyRefusal
     headerA platformA weightsA sheetA
     weightsBefore costsA twoTasks raisedPlatform raisedA raisedTime allRaisedA failingA nearLimit rated oneTaskA
 facts =

@@ -10,10 +10,10 @@ use Rattle.costs.specs.Energy.{energyOf}
 use Rattle.costs.specs.declared.Powers.{Powers}
 use Rattle.pricing.specs.Price.{priceOf}
 use Rattle.planning.specs.Energy.{energyRefusal}
-use Rattle.following.specs.Start.{startOf}
+use Rattle.starting.specs.Start.{startOf}
 use Rattle.history.specs.Events.{steps}
 use Rattle.state.specs.declared.Sums.{Sums}
-use Rattle.following.specs.declared.Event.the-variants.{Done, Passed, Failed}
+use Rattle.events.specs.declared.Event.the-variants.{Done, Passed, Failed}
 
 -- A's header with the pairs (a, b), (c, d): bytes 1, 2, 2, 0, then four fields below 2^8
 unfoldable pub headerA : (a b c d : ℕ) → List ℕ

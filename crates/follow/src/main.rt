@@ -56,7 +56,7 @@ fn follow_log(run: Run, file: i32) {
 
 // The run of the sheet and the marks through the log. The log is read only after both are accepted.
 fn follow(sheet: &[u8], marks: &[u8], file: i32) {
-    let started = following::start(sheet, marks);
+    let started = starting::start(sheet, marks);
     if started.number != 0 {
         console::refused(started.number);
         return;

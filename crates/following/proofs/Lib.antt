@@ -1,3 +1,2 @@
--- The laws of steps and starts that the crate's own proofs and the crates above cite.
+-- The laws of a step that the crate's own proofs and the crates above cite.
 pub mod Steps
-pub mod Starts

@@ -1,4 +1,5 @@
 -- A step by its answers: one law for each refusal, in their order, and one for the place that is left. Assumes nothing.
+use Prim.Native.Nat.{ℕ}
 use mathlib.Core.Path.{_≡_, refl}
 use mathlib.Core.Bool.{Bool, true, false, _&&_, cond}
 use native.Mathlib.Omega.{arith}
@@ -6,13 +7,15 @@ use borrow.Author.Tests.{eqb-false}
 use lib.Dec.{eqb}
 use Rattle.refusals.specs.Numbers
 use Rattle.refusals.specs.Refusals.{first}
-use Rattle.state.specs.State.{awaits, broken, finished, overTotal}
+use Rattle.rules.specs.Rules.{awaits, broken, finished, overTotal}
 use Rattle.following.specs.Run.{outOfTurn, overWeight, nextPlace, standing, stepRefusal, accepted, refused, stepOf}
-use Rattle.following.specs.Working.Ready.{ReadyForEvent, TaskRuns}
+use Rattle.following.specs.Working.Ready.{ReadyForEvent, ReadyForWeight}
+use Rattle.events.specs.Working.Ready.{TaskRuns}
 use Rattle.state.specs.declared.Place.{Place}
 use Rattle.state.specs.declared.Run.{Run}
-use Rattle.following.specs.declared.Event.{Event}
-use Rattle.state.proofs.Soundness.{run-sound}
+use Rattle.events.specs.declared.Event.{Event}
+use Rattle.events.specs.declared.Event.the-variants.{Done, Stopped}
+use Rattle.rules.proofs.Soundness.{run-sound}
 
 module _ (run : Run) (event : Event) where
   pub step-broken : broken run ≡ true → refused Numbers.broken run ≡ stepOf run event
@@ -28,21 +31,21 @@ module _ (run : Run) (event : Event) where
     unfolding stepOf stepRefusal first
     step-out-of-turn t = rw (ready .unbroken, ready .unfinished, t)
 
-    module _ (t : outOfTurn (awaits (run .place)) event ≡ false) where
-      pub step-over-weight : overWeight run event ≡ true → refused Numbers.overWeight run ≡ stepOf run event
-      unfolding stepOf stepRefusal first
-      step-over-weight w = rw (ready .unbroken, ready .unfinished, t, w)
+  module _ (ready : ReadyForWeight run event) where
+    pub step-over-weight : overWeight run event ≡ true → refused Numbers.overWeight run ≡ stepOf run event
+    unfolding stepOf stepRefusal first
+    step-over-weight w = rw (ready .state .unbroken, ready .state .unfinished, ready .turn, w)
 
-      -- the place after the event, unless its total passes the limit
-      pub step-arrives : overWeight run event ≡ false → (next : Place) → next ≡ nextPlace run event
-          → cond (overTotal (next .sums)) (refused Numbers.overTotal run) (accepted (standing run next)) ≡ stepOf run event
-      unfolding stepOf stepRefusal first
-      step-arrives w next e = rw (e, ready .unbroken, ready .unfinished, t, w) (go (overTotal (nextPlace run event .sums)))
-        where
-          go : (o : Bool) → cond o (refused Numbers.overTotal run) (accepted (standing run (nextPlace run event)))
-              ≡ record { number = cond o Numbers.overTotal 0; run = cond (eqb (cond o Numbers.overTotal 0) 0) (standing run (nextPlace run event)) run }
-          go true = refl
-          go false = refl
+    -- the place after the event, unless its total passes the limit
+    pub step-arrives : overWeight run event ≡ false → (next : Place) → next ≡ nextPlace run event
+        → cond (overTotal (next .sums)) (refused Numbers.overTotal run) (accepted (standing run next)) ≡ stepOf run event
+    unfolding stepOf stepRefusal first
+    step-arrives w next e = rw (e, ready .state .unbroken, ready .state .unfinished, ready .turn, w) (go (overTotal (nextPlace run event .sums)))
+      where
+        go : (o : Bool) → cond o (refused Numbers.overTotal run) (accepted (standing run (nextPlace run event)))
+            ≡ record { number = cond o Numbers.overTotal 0; run = cond (eqb (cond o Numbers.overTotal 0) 0) (standing run (nextPlace run event)) run }
+        go true = refl
+        go false = refl
 
 -- while nothing is awaited in a run that is not finished, a task is running
 pub task-runs : (run : Run) → ReadyForEvent run → awaits (run .place) ≡ false → TaskRuns run
@@ -55,3 +58,12 @@ task-runs run ready a =
     go : (x : Bool) → (x && true) ≡ false → x ≡ false
     go true e = e
     go false e = e
+
+-- as at Done and Stopped in their turn
+pub done-runs : (run : Run) → ReadyForWeight run Done → TaskRuns run
+unfolding outOfTurn
+done-runs run ready = task-runs run (ready .state) (ready .turn)
+
+pub stopped-runs : (run : Run) (lost : ℕ) → ReadyForWeight run (Stopped lost) → TaskRuns run
+unfolding outOfTurn
+stopped-runs run lost ready = task-runs run (ready .state) (ready .turn)

@@ -1,43 +1,32 @@
-// Following a run of document 01: starting it, and its step from event to event.
+// Following a run of document 01: its step from event to event, with refusals 21 to 25.
 ghost use mathlib.Core.Path.{_≡_};
-ghost use Rattle.following.specs.Run.{accepted, refused, stepOf};
-ghost use Rattle.following.specs.Start.{startOf};
-
-mod events;
-mod starting;
-
-use events::done;
-use events::failed;
-use events::passed;
-use events::stopped;
-use marks::marks_refusal;
+ghost use mathlib.Core.Bool.{cond};
+ghost use Rattle.refusals.specs.Numbers;
+ghost use Rattle.rules.specs.Rules.{overTotal};
+ghost use Rattle.following.specs.Run.{outOfTurn, overWeight, standing, accepted, refused, stepOf};
+ghost use Rattle.following.specs.Working.Ready.{ReadyForWeight};
+use events::Event;
+use events::after_done;
+use events::after_failed;
+use events::after_passed;
+use events::after_stopped;
+use job::totals::wide;
 use refusals::ACCEPTED;
 use refusals::BROKEN;
 use refusals::FINISHED;
-use sheet::read::read_job;
-use starting::refused_start;
+use refusals::OUT_OF_TURN;
+use refusals::OVER_TOTAL;
+use refusals::OVER_WEIGHT;
+use rules::broken;
+use rules::finished;
+use rules::over_total;
+use rules::positions::weight_at;
+use state::Place;
 use state::Run;
-use state::rules::broken;
-use state::rules::finished;
-
-// What happens in a run; Stopped carries its lost ticks.
-pub enum Event {
-    Done,
-    Passed,
-    Failed,
-    Stopped(u32),
-}
 
 // The answer to an event or a log: 0 and the next state, or the refusal and the state given.
 #[repr(C)]
 pub struct Stepped {
-    pub number: u64,
-    pub run: Run,
-}
-
-// The answer to a start: 0 and the fresh run, or the refusal and the state whose every field is 0.
-#[repr(C)]
-pub struct Started {
     pub number: u64,
     pub run: Run,
 }
@@ -57,6 +46,43 @@ pub fn refused(number: u64, run: Run) -> Stepped
     Stepped { number, run }
 }
 
+// 23: out of turn: Done or Stopped while a verification is awaited, Passed or Failed otherwise.
+fn out_of_turn(awaiting: bool, event: Event) -> bool
+    ensures { λ r. ⌜ r ≡ outOfTurn awaiting event ⌝ }
+{
+    match event {
+        Event::Done => awaiting,
+        Event::Passed => !awaiting,
+        Event::Failed => !awaiting,
+        Event::Stopped(_) => awaiting,
+    }
+}
+
+// 24: lost ticks above the running task's weight. `step` has tested 21 to 23, so that a task is running where there are lost ticks.
+fn over_weight(run: Run, event: Event) -> bool
+    requires { ⌜ ReadyForWeight run event ⌝ }
+    ensures { λ r. ⌜ r ≡ overWeight run event ⌝ }
+{
+    match event {
+        Event::Done => false,
+        Event::Passed => false,
+        Event::Failed => false,
+        Event::Stopped(lost) => weight_at(run.job, run.place.position) < wide(lost),
+    }
+}
+
+// The run at its next place, unless the new total would pass the limit.
+fn arrived(run: Run, next: Place) -> Stepped
+    ensures { λ r. ⌜ r ≡ cond (overTotal (next .sums)) (refused Numbers.overTotal run) (accepted (standing run next)) ⌝ }
+{
+    if over_total(next.sums) {
+        return refused(OVER_TOTAL, run);
+    }
+    let mut moved = run;
+    moved.place = next;
+    accepted(moved)
+}
+
 // One event: the next state, or the first refusal among 21 to 25 and the state unchanged.
 pub fn step(run: Run, event: Event) -> Stepped
     ensures { λ r. ⌜ r ≡ stepOf run event ⌝ }
@@ -67,28 +93,16 @@ pub fn step(run: Run, event: Event) -> Stepped
     if finished(run) {
         return refused(FINISHED, run);
     }
+    if out_of_turn(run.place.awaiting != 0, event) {
+        return refused(OUT_OF_TURN, run);
+    }
+    if over_weight(run, event) {
+        return refused(OVER_WEIGHT, run);
+    }
     match event {
-        Event::Done => done(run),
-        Event::Passed => passed(run),
-        Event::Failed => failed(run),
-        Event::Stopped(lost) => stopped(run, lost),
-    }
-}
-
-// The fresh run, or the first refusal among 1 to 10 and a state with every field 0.
-pub fn start(sheet: &[u8], marks: &[u8]) -> Started
-    ensures { λ r. ⌜ r ≡ startOf (now (sheet .entry)) (now (marks .entry)) ⌝ }
-{
-    let reading = read_job(sheet);
-    if reading.number != 0 {
-        return refused_start(reading.number);
-    }
-    let number = marks_refusal(reading.job, marks);
-    if number != 0 {
-        return refused_start(number);
-    }
-    Started {
-        number: ACCEPTED,
-        run: Run::fresh(reading.job, marks),
+        Event::Done => arrived(run, after_done(run)),
+        Event::Passed => arrived(run, after_passed(run)),
+        Event::Failed => arrived(run, after_failed(run)),
+        Event::Stopped(lost) => arrived(run, after_stopped(run, lost)),
     }
 }

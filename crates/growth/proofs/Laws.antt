@@ -10,7 +10,7 @@ use lib.Dec.{lit≤}
 use Rattle.units.specs.Unit.{unit, exponentLimit}
 use Rattle.units.specs.Working.Caps.{growthCap, meanGrowthCap}
 use Rattle.growth.specs.Growth.{ceilDiv, term, termSum, growthSum, growth, G, H, Fraction, exactSum, boundUnits, WithinBound}
-use Rattle.growth.proofs.Error.{growthSum-bound}
+use Rattle.growth.proofs.SumsError.{growthSum-bound}
 use Rattle.growth.proofs.Terms.{growthSum-mono, growthSum-unit, growth-within, growth-above}
 
 growth-mono : (s a b : ℕ) → a ≤ b → b ≤ exponentLimit → growth s a ≤ growth s b

@@ -1,4 +1,4 @@
-mod Error
+mod SumsError
 pub mod Laws
-mod Settled
+mod TermsSettled
 mod Terms

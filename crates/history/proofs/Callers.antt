@@ -14,20 +14,21 @@ use Rattle.job.specs.Job.{zeroJob}
 use Rattle.job.specs.declared.Job.{Job}
 use Rattle.sheet.specs.Reading.{jobOf}
 use Rattle.marks.specs.Marks.{marksOf}
-use Rattle.state.specs.State.{totalOf, marksIn, beginning, fresh, zeroRun, ZeroPast}
+use Rattle.rules.specs.Rules.{totalOf, marksIn}
+use Rattle.state.specs.State.{beginning, fresh, zeroRun, ZeroPast}
 use Rattle.state.specs.declared.Run.{Run}
-use Rattle.state.proofs.Fresh.{cleared-same, fresh-past-n}
+use Rattle.state.proofs.EntriesTaken.{cleared-same, fresh-past-n}
 use Rattle.following.specs.Run.{accepted, standing, stepOf}
-use Rattle.following.specs.Start.{startRefusal, startOf}
-use Rattle.following.specs.declared.Event.{Event}
+use Rattle.starting.specs.Start.{startRefusal, startOf}
+use Rattle.events.specs.declared.Event.{Event}
 use Rattle.following.specs.declared.Stepped.{Stepped}
 use Rattle.logs.specs.Log.{logOf}
 use Rattle.logs.proofs.Records.{accepted-is}
 use Rattle.history.specs.Events.{steps, eventsOf, tried, taken, triedLogs, takenLogs}
 use Rattle.history.specs.Counts.{placeOf, ticks}
-use Rattle.history.proofs.Accepted.{Begun, start-begun}
+use Rattle.history.proofs.StepsAccepted.{Begun, start-begun}
 use Rattle.history.proofs.Histories.{follows-history, ticks-are-sums}
-use Rattle.history.proofs.Unbroken.{step-refused-same}
+use Rattle.history.proofs.StatesUnbroken.{step-refused-same}
 use Rattle.history.proofs.Logs.{steps-append, one-step, log-is-steps, log-refused-same}
 
 -- accepted events, then what others lead to

@@ -10,11 +10,12 @@ use lib.Dec.{eqb}
 use Rattle.chain.specs.Time.{Marks, memory, disk, last}
 use Rattle.chain.proofs.Equations.{last-here, last-past, last-lt, last-first}
 use Rattle.chain.proofs.Last.{last-marked, last-between, last-over}
-use Rattle.state.specs.State.{marksIn, awaits}
+use Rattle.rules.specs.Rules.{marksIn, awaits}
 use Rattle.state.specs.declared.Run.{Run}
-use Rattle.following.specs.Run.{afterDone, afterPassed, backToMemory, backToDisk, placeAfter, nextPlace, outOfTurn, standing}
-use Rattle.following.specs.declared.Event.{Event}
-use Rattle.following.specs.declared.Event.the-variants.{Done, Passed, Failed, Stopped}
+use Rattle.events.specs.Events.{afterDone, afterPassed, backToMemory, backToDisk, placeAfter}
+use Rattle.following.specs.Run.{nextPlace, outOfTurn, standing}
+use Rattle.events.specs.declared.Event.{Event}
+use Rattle.events.specs.declared.Event.the-variants.{Done, Passed, Failed, Stopped}
 use Rattle.history.specs.History.{History, happened}
 use Rattle.history.specs.States.{passedBefore, historyAt}
 

@@ -17,20 +17,22 @@ use Rattle.job.specs.declared.Job.{Job}
 use Rattle.job.proofs.Weights.{total-more, total-mono}
 use Rattle.marks.specs.Pays.{table, paysOf}
 use Rattle.costs.specs.Costs.{vAt, cmAt, cdAt, verifyPaid, savesPaid}
-use Rattle.state.specs.State.{totalOf, marksIn, awaits, badAwaiting, broken, beginning}
+use Rattle.rules.specs.Rules.{totalOf, marksIn, awaits, badAwaiting, broken}
+use Rattle.state.specs.State.{beginning}
 use Rattle.state.specs.declared.Sums.{Sums}
 use Rattle.state.specs.declared.Place.{Place}
 use Rattle.state.specs.declared.Run.{Run}
-use Rattle.state.proofs.Copies.{last-up-to}
-use Rattle.state.proofs.Soundness.{run-place, run-marks}
-use Rattle.following.specs.Run.{afterDone, afterPassed, backToMemory, backToDisk, placeAfter, nextPlace, outOfTurn, standing, stepOf}
-use Rattle.following.specs.declared.Event.{Event}
-use Rattle.following.specs.declared.Event.the-variants.{Done, Passed, Failed, Stopped}
+use Rattle.rules.proofs.Copies.{last-up-to}
+use Rattle.rules.proofs.Soundness.{run-place, run-marks}
+use Rattle.events.specs.Events.{afterDone, afterPassed, backToMemory, backToDisk, placeAfter}
+use Rattle.following.specs.Run.{nextPlace, outOfTurn, standing, stepOf}
+use Rattle.events.specs.declared.Event.{Event}
+use Rattle.events.specs.declared.Event.the-variants.{Done, Passed, Failed, Stopped}
 use Rattle.history.specs.Events.{steps}
 use Rattle.history.specs.History.{History, atStart, happened, historyFrom, history}
 use Rattle.history.specs.Counts.{countFrom, count, joinsKept, moves, joinsRedone, joinsVerify, joinsSaves, joinsRecovery, sumsOf, placeOf, ticksOf, ticks}
 use Rattle.history.specs.States.{historyAt, Added, Plain, StepCounts}
-use Rattle.history.proofs.Accepted.{step-accepted}
+use Rattle.history.proofs.StepsAccepted.{step-accepted}
 use Rattle.history.proofs.Copies.{history-goes-on}
 
 -- what a mark pays, by its row of the table and by its number

@@ -13,10 +13,10 @@ use borrow.Author.Tests.{eq-eqb, ne-eqb}
 use lib.Dec.{eqb}
 use lib.ListN.{length}
 use Rattle.refusals.specs.Numbers
-use Rattle.state.specs.State.{broken}
+use Rattle.rules.specs.Rules.{broken}
 use Rattle.following.specs.Run.{stepOf, accepted, refused}
 use Rattle.state.specs.declared.Run.{Run}
-use Rattle.following.specs.declared.Event.{Event}
+use Rattle.events.specs.declared.Event.{Event}
 use Rattle.following.specs.declared.Stepped.{Stepped}
 use Rattle.logs.specs.Log.{recordCount, recordAt, badRecord, eventOf, recorded, applied, orBefore, emptyLog, logOf}
 use Rattle.logs.proofs.Records.{accepted-is, applied-stays}

@@ -10,8 +10,8 @@ use Rattle.job.specs.declared.Job.{Job}
 use Rattle.costs.specs.Costs.{vAt, cmAt, cdAt, rdAt, rmAt}
 use Rattle.state.specs.declared.Sums.{Sums}
 use Rattle.state.specs.declared.Place.{Place}
-use Rattle.following.specs.declared.Event.{Event}
-use Rattle.following.specs.declared.Event.the-variants.{Done, Passed, Failed, Stopped}
+use Rattle.events.specs.declared.Event.{Event}
+use Rattle.events.specs.declared.Event.the-variants.{Done, Passed, Failed, Stopped}
 use Rattle.history.specs.History.{History, atStart, happened, history}
 
 -- ticks by event, from where the run stood before it

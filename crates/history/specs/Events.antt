@@ -7,7 +7,7 @@ use lib.Dec.{eqb}
 use lib.ListN.{length}
 use Rattle.following.specs.Run.{accepted, stepOf}
 use Rattle.state.specs.declared.Run.{Run}
-use Rattle.following.specs.declared.Event.{Event}
+use Rattle.events.specs.declared.Event.{Event}
 use Rattle.following.specs.declared.Stepped.{Stepped}
 use Rattle.logs.specs.Log.{recordLength, recordCount, recordAt, badRecord, eventOf, orBefore, logOf}
 

@@ -4,12 +4,12 @@ use mathlib.Core.Path.{_≡_}
 use mathlib.Core.Bool.{cond}
 use Rattle.chain.specs.Time.{Marks, memory, disk, last}
 use Rattle.job.specs.declared.Job.{Job}
-use Rattle.state.specs.State.{totalOf, marksIn, awaits}
+use Rattle.rules.specs.Rules.{totalOf, marksIn, awaits}
 use Rattle.state.specs.declared.Sums.{Sums}
 use Rattle.state.specs.declared.Place.{Place}
 use Rattle.state.specs.declared.Run.{Run}
 use Rattle.following.specs.Run.{standing}
-use Rattle.following.specs.declared.Event.{Event}
+use Rattle.events.specs.declared.Event.{Event}
 use Rattle.history.specs.History.{History, happened}
 use Rattle.history.specs.Counts.{joinsKept, moves, joinsRedone, joinsVerify, joinsSaves, joinsRecovery, ticksOf}
 

@@ -5,8 +5,9 @@ use mathlib.Core.Bool.{false, _||_}
 use mathlib.Core.List.{List}
 use native.Mathlib.Nat.{le-trans, le-of-lt, mul-le-mul}
 use native.Mathlib.Omega.{arith}
-use borrow.Author.Tests.{ltb-false, eqb-false, le-ltb}
+use borrow.Author.Tests.{ltb-false, eqb-false}
 use lib.Dec.{lit≤, ltb, eqb}
+use lib.ListN.{getD}
 use Rattle.units.specs.Limits.{costLimit}
 use Rattle.lists.specs.Lists.{some}
 use Rattle.lists.proofs.Lists.{or-fails, some-fails}
@@ -14,7 +15,7 @@ use Rattle.refusals.specs.Refusals.{first, has, distinct}
 use Rattle.refusals.proofs.Refusals.{first-clear}
 use Rattle.units.specs.Limits.{taskLimit}
 use Rattle.job.specs.Job.{total, weightAt}
-use Rattle.job.specs.Checks.{badCount, badCost, badWeight, badValue, badTask, jobConditions}
+use Rattle.job.specs.Checks.{badCount, costsOf, badCost, badWeight, badValue, badTask, jobConditions}
 use Rattle.job.specs.Working.Sound.{CostsBounded, Sound}
 use Rattle.job.specs.declared.Job.{Job}
 use Rattle.job.specs.declared.Platform.{Platform}
@@ -58,16 +59,13 @@ module _ (job : Job) (value : badValue job ≡ false) where
 pub costs-bounded : (p : Platform) → badCost p ≡ false → CostsBounded p
 unfolding badCost
 costs-bounded p e =
-    let e1 = or-fails (ltb costLimit (p .cd)) _ e in
-    let e2 = or-fails (ltb costLimit (p .cm)) _ (e1 .1) in
-    let e3 = or-fails (ltb costLimit (p .v)) _ (e2 .1) in
-    let e4 = or-fails (ltb costLimit (p .rd)) _ (e3 .1) in
+    let within : (k : ℕ) → k < 5 → getD (costsOf p) k 0 ≤ costLimit = λ k h. ltb-false costLimit (getD (costsOf p) k 0) (some-fails 5 _ e k h) in
     record {
-      cd = ltb-false costLimit (p .cd) (e1 .0);
-      cm = ltb-false costLimit (p .cm) (e2 .0);
-      v = ltb-false costLimit (p .v) (e3 .0);
-      rd = ltb-false costLimit (p .rd) (e4 .0);
-      rm = ltb-false costLimit (p .rm) (e4 .1);
+      cd = within 0 (omega arith);
+      cm = within 1 (omega arith);
+      v = within 2 (omega arith);
+      rd = within 3 (omega arith);
+      rm = within 4 (omega arith);
     }
 
 -- check 7 passes where costs and weights are in range
@@ -100,8 +98,3 @@ job-sound job count e =
 -- a rate times a weight
 pub product-range : {r w : ℕ} → r < 2 ^ 32 → w ≤ costLimit → r * w ≤ 2 ^ 62
 product-range h k = le-trans (mul-le-mul (le-of-lt h) k) (lit≤ tt)
-
--- the last of the five costs decides where the others are in range
-pub cost-decides : (p : Platform) → p .cd ≤ costLimit → p .cm ≤ costLimit → p .v ≤ costLimit → p .rd ≤ costLimit → ltb costLimit (p .rm) ≡ badCost p
-unfolding badCost
-cost-decides p a b d e = rw (le-ltb costLimit (p .cd) a, le-ltb costLimit (p .cm) b, le-ltb costLimit (p .v) d, le-ltb costLimit (p .rd) e)

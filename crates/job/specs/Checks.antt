@@ -3,6 +3,7 @@ use Prim.Native.Nat.{ℕ}
 use mathlib.Core.Bool.{Bool, not, _||_}
 use mathlib.Core.List.{List, [], _∷_}
 use lib.Dec.{ltb, eqb}
+use lib.ListN.{length, getD}
 use Rattle.units.specs.Limits.{costLimit}
 use Rattle.lists.specs.Lists.{some}
 use Rattle.refusals.specs.Numbers
@@ -16,10 +17,13 @@ use Rattle.job.specs.declared.Job.{Job}
 unfoldable pub badCount : ℕ → Bool
 badCount n = eqb n 0 || ltb taskLimit n
 
+-- the five costs: C_D, C_M, V, R_D and R_M
+abbrev pub costsOf : Platform → List ℕ
+costsOf p = p .cd ∷ p .cm ∷ p .v ∷ p .rd ∷ p .rm ∷ []
+
 -- a cost outside its range
 unfoldable pub badCost : Platform → Bool
-badCost p =
-    ltb costLimit (p .cd) || (ltb costLimit (p .cm) || (ltb costLimit (p .v) || (ltb costLimit (p .rd) || ltb costLimit (p .rm))))
+badCost p = some (length (costsOf p)) (λ k. ltb costLimit (getD (costsOf p) k 0))
 
 -- a weight outside its range
 unfoldable pub badWeight : List ℕ → ℕ → Bool

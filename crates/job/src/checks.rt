@@ -21,6 +21,9 @@ use units::TASK_LIMIT;
 
 const COST_LIMIT: u32 = 1 << 30;
 
+// How many fields of a platform are costs.
+const COSTS: usize = 5;
+
 pub const TOTAL_LIMIT: u64 = 1 << 30;
 
 // Check 3, of a sheet's or a run's task count.
@@ -33,19 +36,15 @@ pub fn bad_count(n: usize) -> bool
 fn bad_cost(p: Platform) -> bool
     ensures { λ r. ⌜ r ≡ badCost p ⌝ }
 {
-    if COST_LIMIT < p.cd {
-        return true;
+    let costs = [p.cd, p.cm, p.v, p.rd, p.rm];
+    let mut k: usize = 0;
+    while k < COSTS {
+        if COST_LIMIT < costs[k] {
+            return true;
+        }
+        k += 1;
     }
-    if COST_LIMIT < p.cm {
-        return true;
-    }
-    if COST_LIMIT < p.v {
-        return true;
-    }
-    if COST_LIMIT < p.rd {
-        return true;
-    }
-    COST_LIMIT < p.rm
+    false
 }
 
 fn bad_weight(w: u32) -> bool

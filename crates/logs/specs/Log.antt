@@ -6,11 +6,11 @@ use lib.Dec.{ltb, eqb}
 use lib.ListN.{length, take, drop}
 use Rattle.refusals.specs.Numbers
 use Rattle.sheet.specs.Bytes.{byteAt, fieldAt}
-use Rattle.state.specs.State.{broken}
+use Rattle.rules.specs.Rules.{broken}
 use Rattle.following.specs.Run.{stepOf, accepted, refused}
 use Rattle.state.specs.declared.Run.{Run}
-use Rattle.following.specs.declared.Event.{Event}
-use Rattle.following.specs.declared.Event.the-variants.{Done, Passed, Failed, Stopped}
+use Rattle.events.specs.declared.Event.{Event}
+use Rattle.events.specs.declared.Event.the-variants.{Done, Passed, Failed, Stopped}
 use Rattle.following.specs.declared.Stepped.{Stepped}
 
 abbrev pub recordLength : ℕ

@@ -2,17 +2,17 @@
 ghost use mathlib.Core.Path.{_≡_};
 ghost use Prim.Native.Nat.{_<_};
 ghost use Rattle.logs.specs.Log.{recordCount, recordAt, badRecord, eventOf, emptyLog, orBefore, applied, logOf};
-use following::Event;
+use events::Event;
 use following::Stepped;
 use following::accepted;
 use following::refused;
 use following::step;
 use refusals::BAD_RECORD;
 use refusals::BROKEN;
+use rules::broken;
 use sheet::bytes::byte;
 use sheet::bytes::field;
 use state::Run;
-use state::rules::broken;
 
 const RECORD_LENGTH: usize = 5;
 

@@ -20,7 +20,7 @@ use Rattle.costs.specs.Dearer.{Cost, OneRaised, CostsRaised}
 use Rattle.costs.specs.declared.Powers.{Powers}
 use Rattle.costs.proofs.Stretches.{S-rises, energy-rises}
 use Rattle.costs.proofs.Dearer.{raised-dearer, chain-dearer, energy-dearer}
-use Rattle.pricing.specs.Dearer.{NotSooner}
+use Rattle.dearer.specs.Dearer.{NotSooner}
 use Rattle.answers.specs.Promise.{AllSlow, PlansChecked, Free}
 use Rattle.planning.specs.Promise.{Plans}
 use Rattle.planning.specs.Energy.{energyConditions, energyRefusal, PlansByEnergy}

@@ -1,5 +1,3 @@
 -- The laws of prices that the crate's own proofs and the crates above cite.
 pub mod Prices
-pub mod Steps
 pub mod Progresses
-pub mod Dearer

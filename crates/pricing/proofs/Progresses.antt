@@ -11,7 +11,7 @@ use borrow.Author.Tests.{not-false}
 use lib.ListN.{getD}
 use Rattle.chain.specs.Chain.{Chain}
 use Rattle.chain.specs.Time.{Marks, verification, memory, disk, last, Q, M, D, Q', M'}
-use Rattle.chain.proofs.Equations.{last-here, last-past, last-first, Q-is, M-is, D-is, D-zero, Q'-start, M'-start}
+use Rattle.chain.proofs.Equations.{last-le, last-here, last-past, last-first, Q-is, M-is, D-is, D-zero, Q'-start, M'-start}
 use Rattle.chain.proofs.Spent.{spent, Q'-same, Q'-next, Q'-none, M'-same, M'-next, M'-none, D-same, D-next, spent-done, spent-mono}
 use Rattle.units.specs.Limits.{costLimit, none}
 use Rattle.job.specs.Job.{weightAt, isAllowed, between, stretchAllowed}
@@ -25,8 +25,8 @@ use Rattle.job.proofs.Weights.{between-range}
 use Rattle.costs.specs.Costs.{cmAt, cdAt}
 use Rattle.costs.specs.Stretch.{chainOf, timeOf}
 use Rattle.costs.proofs.Stretches.{S-factors}
-use Rattle.pricing.specs.Working.Progress.{arrivalOf, pastMark, weighed}
-use Rattle.pricing.specs.declared.Progress.{Progress}
+use Rattle.progress.specs.Working.Progress.{arrivalOf, pastMark, weighed, CarriedTo}
+use Rattle.progress.specs.declared.Progress.{Progress}
 
 pub record Progresses (job : Job) (l : List ℕ) (j : ℕ) (s : Progress) : Type 0 where
   pub weight : s .weight ≡ running (job .weights) (marksOf l) j
@@ -66,6 +66,14 @@ module _ (job : Job) (l : List ℕ) where
     unfolding badStretches stretchAllowed
     progress-allowed b h k =
         rw weight-here (not-false _ (sym (stretch-marked job l j k) ∙ some-fails (job .tasks) _ b j h))
+
+    pub progress-carried : Sound job → j < job .tasks → CarriedTo (weighed s (weightAt (job .weights) j)) (j + 1)
+    progress-carried sound h =
+        record {
+          position = omega (arith, sound .few-tasks);
+          memory = omega (arith, now .m, last-le memory f (suc j));
+          disk = omega (arith, now .d, last-le disk f (suc j));
+        }
 
     arrival-is : arrivalOf job (weighed s (weightAt (job .weights) j)) (suc j) ≡ Q c f (suc j)
     unfolding arrivalOf chainOf

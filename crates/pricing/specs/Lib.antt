@@ -1,3 +1,2 @@
 pub mod Price
-pub mod Dearer
 pub mod Working

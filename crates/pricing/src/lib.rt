@@ -5,89 +5,17 @@ ghost use Prim.Native.Nat.{min};
 ghost use Rattle.units.specs.Limits.{none};
 ghost use Rattle.costs.specs.Stretch.{timeOf};
 ghost use Rattle.pricing.specs.Price.{priceOf};
-ghost use Rattle.pricing.specs.Working.Progress.{ReadyForArrival, ReadyForMark, ReadyForTime, Arrived, Passed};
-use chain::Recoveries;
-use chain::stretch_time;
-use costs::cd_at;
-use costs::cm_at;
-use costs::rd_at;
-use costs::rm_at;
-use costs::stretch_factors;
-use costs::v_at;
+ghost use Rattle.pricing.specs.Working.Ready.{ReadyForTime};
 use job::Job;
 use marks::marks_refusal;
-use marks::payments;
+use progress::Progress;
+use progress::past_mark;
 use refusals::Answer;
 use refusals::TOO_SLOW;
 use refusals::accepted;
 use refusals::refused;
 use sheet::read::read_job;
 use units::NONE;
-
-// What is carried from one position to the next: the weight since the last mark, the last memory and disk copies, Q', M' and D(d).
-pub struct Progress {
-    pub weight: u64,
-    pub m: usize,
-    pub d: usize,
-    pub q: u64,
-    pub mt: u64,
-    pub dt: u64,
-}
-
-// Q(v) from what is carried to the marked position v.
-fn arrival(job: Job, s: Progress, v: usize) -> u64
-    requires { ⌜ ReadyForArrival job s ⌝ }
-    ensures { λ r. ⌜ Arrived job s v r ⌝ }
-{
-    let factors = stretch_factors(job.platform, s.weight, v_at(job, v));
-    let disk = rd_at(job, s.d) + s.mt;
-    let recoveries = Recoveries {
-        disk,
-        memory: rm_at(job, s.m),
-    };
-    s.q + stretch_time(factors, recoveries, s.q)
-}
-
-// What is carried past the mark at v.
-fn past_mark(job: Job, s: Progress, v: usize, mark: u8) -> Progress
-    requires { ⌜ ReadyForMark job s mark ⌝ }
-    ensures { λ r. ⌜ Passed job s v mark r ⌝ }
-{
-    let pays = payments(mark);
-    if !pays.v {
-        return s;
-    }
-    let q = arrival(job, s, v);
-    if !pays.cm {
-        return Progress {
-            weight: 0,
-            m: s.m,
-            d: s.d,
-            q,
-            mt: s.mt,
-            dt: s.dt,
-        };
-    }
-    let mt = s.mt + q + cm_at(job, v);
-    if !pays.cd {
-        return Progress {
-            weight: 0,
-            m: v,
-            d: s.d,
-            q: 0,
-            mt,
-            dt: s.dt,
-        };
-    }
-    Progress {
-        weight: 0,
-        m: v,
-        d: v,
-        q: 0,
-        mt: 0,
-        dt: s.dt + mt + cd_at(job, v),
-    }
-}
 
 // The time of a setting that passed check 10, or none where it is too slow: what is too slow once stays so.
 fn setting_time(job: Job, marks: &[u8]) -> u64

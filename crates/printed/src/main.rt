@@ -7,7 +7,7 @@ use units::TASK_LIMIT;
 // The plan of the sheet.
 fn show(sheet: &[u8]) {
     let mut marks = [0u8; TASK_LIMIT];
-    let answer = equations::printed(sheet, &mut marks);
+    let answer = engine::printed(sheet, &mut marks);
     console::plan(b"time", answer, marks, task_count(sheet));
 }
 

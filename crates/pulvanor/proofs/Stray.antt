@@ -24,8 +24,8 @@ use Rattle.joining.proofs.Theorems.{join-refuses}
 use Rattle.pricing.specs.Price.{priceRefusal, priceOf}
 use Rattle.costs.specs.declared.Powers.{Powers}
 use Rattle.planning.specs.Energy.{energyRefusal}
-use Rattle.equations.specs.Promise.{printedRefusal}
-use Rattle.following.specs.Start.{startRefusal, startOf}
+use Rattle.engine.specs.Promise.{printedRefusal}
+use Rattle.starting.specs.Start.{startRefusal, startOf}
 use Rattle.pulvanor.specs.Stray.{StrayRefused}
 
 join-refused : (a b before after : List ℕ) (r : Joined) → joinRefusal a b (length before) ≡ Numbers.strayByte → Joins a b before after r

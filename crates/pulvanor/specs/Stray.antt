@@ -16,8 +16,8 @@ use Rattle.costs.specs.declared.Powers.{Powers}
 use Rattle.answers.specs.Promise.{Refused}
 use Rattle.planning.specs.Promise.{Plans}
 use Rattle.planning.specs.Energy.{PlansByEnergy}
-use Rattle.equations.specs.Promise.{PlansAsPrinted}
-use Rattle.following.specs.Start.{refusedStart, startOf}
+use Rattle.engine.specs.Promise.{PlansAsPrinted}
+use Rattle.starting.specs.Start.{refusedStart, startOf}
 
 -- every call refuses the sheet s by 28: a lookup, a reading in both its forms, a price, a plan, a plan by energy, a plan by the equations as printed, a start,
 -- and a join, of which s is the first sheet, or the second after one that is accepted

@@ -6,15 +6,15 @@ ghost use Rattle.joining.specs.Join.{Joins};
 ghost use Rattle.pricing.specs.Price.{priceOf};
 ghost use Rattle.planning.specs.Promise.{Plans};
 ghost use Rattle.planning.specs.Energy.{PlansByEnergy};
-ghost use Rattle.equations.specs.Promise.{PlansAsPrinted};
-ghost use Rattle.following.specs.Start.{startOf};
+ghost use Rattle.engine.specs.Promise.{PlansAsPrinted};
+ghost use Rattle.starting.specs.Start.{startOf};
 ghost use Rattle.logs.specs.Log.{logOf};
 use costs::Powers;
-use following::Started;
 use following::Stepped;
 use joining::Joined;
 use refusals::Answer;
 use sheet::Found;
+use starting::Started;
 use state::Run;
 
 #[no_mangle]
@@ -77,14 +77,14 @@ pub extern "C" fn pulvanor_energy(
 pub extern "C" fn pulvanor_printed(sheet: &[u8], buffer: &mut [u8]) -> Answer
     ensures { λ r. ⌜ PlansAsPrinted (now (sheet .entry)) (now (buffer .entry)) (now (buffer .exit)) r ⌝ }
 {
-    equations::printed(sheet, buffer)
+    engine::printed(sheet, buffer)
 }
 
 #[no_mangle]
 pub extern "C" fn pulvanor_start(sheet: &[u8], marks: &[u8]) -> Started
     ensures { λ r. ⌜ r ≡ startOf (now (sheet .entry)) (now (marks .entry)) ⌝ }
 {
-    following::start(sheet, marks)
+    starting::start(sheet, marks)
 }
 
 // The records of a log; one record is one event.

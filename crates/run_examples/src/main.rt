@@ -35,7 +35,7 @@ fn plan(name: &[u8]) {
 // The run of the sheet under marks 23 through the log.
 fn follow(sheet: &[u8], log: &[u8]) {
     let marks = [2u8, 3];
-    let started = following::start(sheet, &marks);
+    let started = starting::start(sheet, &marks);
     let followed = logs::follow(started.run, log);
     let fresh = followed.run;
     let place = fresh.place;

@@ -1,4 +1,2 @@
--- The laws of a state that the crate's own proofs and the crates above cite.
-pub mod Copies
-pub mod Soundness
-pub mod Fresh
+-- The laws of a fresh run that the crate's own proofs and the crates above cite.
+pub mod EntriesTaken

@@ -1,11 +1,7 @@
-// The state of a run: its values and marks, where it stands, its five sums, and what document 01 asks of it (refusals 21 and 22).
+// The state of a run: its values and marks, where it stands, and its five sums; the fresh run, and the state with every field 0.
 ghost use mathlib.Core.Path.{_≡_};
 ghost use Rattle.state.specs.State.{beginning, cleared, fresh, zeroRun};
 ghost use Rattle.state.specs.Working.Entries.{Entries};
-
-pub mod positions;
-pub mod rules;
-
 use job::Job;
 use units::TASK_LIMIT;
 

@@ -30,7 +30,9 @@ loop-holds c =
     record { within = omega arith; table = table-first _ _ _ (pre .filled); same-long = refl }
 
 cm-at-requires : tie.Need-cm-at-requires Inv-loop μ-loop
-cm-at-requires c κs = search needs
+cm-at-requires c κs =
+    let pre = c .before .before .before .before .pre in
+    omega (arith, pre .sound .few-tasks)
 
 mul-put-in-column : tie.Need-mul-put-in-column Inv-loop μ-loop
 mul-put-in-column c =
@@ -50,7 +52,9 @@ put-in-column-requires c κs =
     }
 
 cd-at-requires : tie.Need-cd-at-requires Inv-loop μ-loop
-cd-at-requires c κs = search needs
+cd-at-requires c κs =
+    let pre = c .before .before .before .before .before .before .before .before .before .before .pre in
+    omega (arith, pre .sound .few-tasks)
 
 mul-put-in-column-2 : tie.Need-mul-put-in-column-2 Inv-loop μ-loop
 mul-put-in-column-2 c =
@@ -71,7 +75,9 @@ put-in-column-requires-2 c κs =
     }
 
 rd-at-requires : tie.Need-rd-at-requires Inv-loop μ-loop
-rd-at-requires c κs = search needs
+rd-at-requires c κs =
+    let pre = c .before .before .before .before .before .before .before .before .before .before .before .before .before .before .before .before .pre in
+    omega (arith, pre .sound .few-tasks)
 
 mul-put-in-column-3 : tie.Need-mul-put-in-column-3 Inv-loop μ-loop
 mul-put-in-column-3 c =
@@ -93,7 +99,9 @@ put-in-column-requires-3 c κs =
     }
 
 rm-at-requires : tie.Need-rm-at-requires Inv-loop μ-loop
-rm-at-requires c κs = search needs
+rm-at-requires c κs =
+    let pre = c .before .before .before .before .before .before .before .before .before .before .before .before .before .before .before .before .before .before .before .before .before .before .pre in
+    omega (arith, pre .sound .few-tasks)
 
 mul-put-in-column-4 : tie.Need-mul-put-in-column-4 Inv-loop μ-loop
 mul-put-in-column-4 c =

@@ -65,7 +65,9 @@ sub-factors-if-allowed c =
     totals-between _ (args .job) (pre .sound) (pre .products) _ (pre .totals) (args .u) (loop .v) (loop .inv .order) (omega arith) .order
 
 v-at-requires : tie.Need-v-at-requires Inv-loop μ-loop
-v-at-requires c κs = search needs
+v-at-requires c κs =
+    let pre = c .before .before .before .before .before .before .before .pre in
+    omega (arith, pre .sound .few-tasks)
 
 factors-if-allowed-requires : tie.Need-factors-if-allowed-requires Inv-loop μ-loop
 factors-if-allowed-requires c κs =

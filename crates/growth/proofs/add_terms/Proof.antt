@@ -12,7 +12,7 @@ use Rattle.units.specs.Working.Caps.{growthCap}
 use Rattle.growth.specs.Growth.{lastTerm, termUnit, ceilDiv, term, termSum}
 use Rattle.growth.specs.Working.Sums.{UpTo}
 use Rattle.growth.proofs.Terms.{ceil-lt, ceil-ceil, term-le-sum, termSum-cap}
-use Rattle.growth.proofs.Settled.{settled-term, settled-sum}
+use Rattle.growth.proofs.TermsSettled.{settled-term, settled-sum}
 use Rattle.growth.proofs.add_terms.Statement.{statement}
 use Rattle.growth.proofs.add_terms.Tie as tie
 

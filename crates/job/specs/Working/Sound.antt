@@ -1,10 +1,11 @@
 -- What a job that passed checks 3, 7 and 8 is known to have, as facts.
-use Prim.Native.Nat.{ℕ, _≤_, _<_}
+use Prim.Native.Nat.{ℕ, _≤_, _<_, _^_}
+use mathlib.Core.Path.{_≡_}
 use mathlib.Core.List.{List}
 use lib.ListN.{length}
 use Rattle.units.specs.Limits.{costLimit}
 use Rattle.units.specs.Limits.{taskLimit}
-use Rattle.job.specs.Job.{total}
+use Rattle.job.specs.Job.{total, exponent}
 use Rattle.job.specs.declared.Platform.{Platform}
 use Rattle.job.specs.declared.Job.{Job}
 
@@ -19,6 +20,11 @@ pub record CostsBounded (p : Platform) : Type 0 where
 pub record ReadyForWeights (n : ℕ) (w : List ℕ) : Type 0 where
   pub few-tasks : n ≤ taskLimit
   pub held : n ≤ length w
+
+-- an exponent as the code gives it: of a rate of 32 bits and a weight in range
+pub record ExponentIs (rate weight r : ℕ) : Type 0 where
+  pub value : r ≡ exponent rate weight
+  pub range : r ≤ 2 ^ 38
 
 pub record Sound (job : Job) : Type 0 where
   pub some-task : 0 < job .tasks

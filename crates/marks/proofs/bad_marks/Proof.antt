@@ -1,5 +1,6 @@
 -- `marks::bad_marks` meets its contract. The loop's invariant: no mark passed is above 3. The measure is what is left of the marks. Assumes nothing.
-use Prim.Native.Nat.{_-_, _≤_, _<_}
+use mathlib.Core.List.{List}
+use Prim.Native.Nat.{ℕ, _-_, _≤_, _<_}
 use mathlib.Core.Path.{_≡_, refl}
 use mathlib.Core.Bool.{false, or-true}
 use native.Mathlib.Omega.{arith}
@@ -15,8 +16,12 @@ use Rattle.marks.proofs.Stretches.{mark-at}
 use Rattle.marks.proofs.bad_marks.Statement.{statement}
 use Rattle.marks.proofs.bad_marks.Tie as tie
 
+record Passed (marks : List ℕ) (n j : ℕ) : Type 0 where
+  to : j ≤ n
+  clear : some j (λ i. ltb disk (getD marks i 0)) ≡ false
+
 abbrev Inv-loop : tie.InvT-loop
-Inv-loop n marks j₀ j = (j ≤ n) × (some j (λ i. ltb disk (getD marks i 0)) ≡ false)
+Inv-loop n marks j₀ j = Passed marks n j
 
 abbrev μ-loop : tie.MeasureT-loop
 μ-loop n marks j₀ j = n - j
@@ -27,7 +32,7 @@ returns c = rw (ne-eqb _ _ (c .if1 .taken))
 
 loop-holds : tie.Need-loop-holds Inv-loop μ-loop
 unfolding some
-loop-holds c = (search needs, refl)
+loop-holds c = record { to = search needs; clear = refl }
 
 shared-slice-read-if2 : tie.Need-shared-slice-read-if2 Inv-loop μ-loop
 shared-slice-read-if2 c = omega arith
@@ -48,7 +53,7 @@ loop-less c = omega arith
 loop-again : tie.Need-loop-again Inv-loop μ-loop
 loop-again c =
     let loop = c .before .before .before .loop in
-    (omega arith, some-more (loop .j) _ (loop .inv .1) (le-ltb _ _ (c .if2 .left)))
+    record { to = omega arith; clear = some-more (loop .j) _ (loop .inv .clear) (le-ltb _ _ (c .if2 .left)) }
 
 sub-result : tie.Need-sub-result Inv-loop μ-loop
 sub-result c = omega arith
@@ -64,7 +69,7 @@ returns-3 c =
     let if1 = c .before .before .before .if1 in
     let pre : 0 < args .n = c .before .before .before .before .pre in
     let e : loop .j ≡ args .n = omega arith in
-    rw (eq-eqb _ _ (if1 .left), ← e, loop .inv .1, e, mark-at (args .marks .now) (args .n) pre)
+    rw (eq-eqb _ _ (if1 .left), ← e, loop .inv .clear, e, mark-at (args .marks .now) (args .n) pre)
 
 pub bad-marks-spec : {M : Type 1} → statement M
 bad-marks-spec =

@@ -1,24 +1,32 @@
 -- `pricing::setting_time` meets its contract. The loop's invariant: what is carried to the next position is the definition's, unless the limit was passed, and
 -- then D(n) passes it too.
 -- The measure is what is left of the tasks. Assumes nothing.
-use Prim.Native.Nat.{_+_, _-_, _≤_, _<_}
+use Rattle.progress.specs.declared.Progress.{Progress}
+use Rattle.job.specs.declared.Job.{Job}
+use mathlib.Core.List.{List}
+use Prim.Native.Nat.{ℕ, _+_, _-_, _≤_, _<_}
 use mathlib.Core.Path.{_≡_, sym}
 use native.Mathlib.Omega.{arith}
 use Rattle.units.specs.Limits.{none}
 use Rattle.marks.proofs.Stretches.{marks-passed, marks-length, marks-range, marks-end}
-use Rattle.pricing.proofs.Progresses.{Progresses, progress-start, progress-past, progress-allowed, progress-slow, progress-time, weight-range}
+use Rattle.pricing.proofs.Progresses.{Progresses, progress-start, progress-carried, progress-past, progress-allowed, progress-slow, progress-time, weight-range}
 use Rattle.pricing.proofs.setting_time.Statement.{statement}
 use Rattle.pricing.proofs.setting_time.Tie as tie
 use borrow.Author.Needs.{needs}
 
+record Carried (job : Job) (marks : List ℕ) (s : Progress) (j : ℕ) : Type 0 where
+  to : j ≤ job .tasks
+  progress : Progresses job marks j s
+  in-time : s .dt + s .mt + s .q < none
+
 abbrev Inv-loop : tie.InvT-loop
-Inv-loop marks job n weights s₀ j₀ s j = (j ≤ job .tasks) × Progresses job marks j s × (s .dt + s .mt + s .q < none)
+Inv-loop marks job n weights s₀ j₀ s j = Carried job marks s j
 
 abbrev μ-loop : tie.MeasureT-loop
 μ-loop marks job n weights s₀ j₀ s j = job .tasks - j
 
 loop-holds : tie.Need-loop-holds Inv-loop μ-loop
-loop-holds c = (search needs, progress-start _ _, search needs)
+loop-holds c = record { to = search needs; progress = progress-start _ _; in-time = search needs }
 
 mul-s : tie.Need-mul-s Inv-loop μ-loop
 mul-s c = omega arith
@@ -36,7 +44,7 @@ add-s c =
     let loop = c .before .before .loop in
     let pre = c .before .before .before .before .before .pre in
     let loop-test = c .before .loop-test in
-    omega (arith, weight-range _ _ _ _ (loop .inv .1) (pre .sound) (loop-test .taken))
+    omega (arith, weight-range _ _ _ _ (loop .inv .progress) (pre .sound) (loop-test .taken))
 
 add-past-mark : tie.Need-add-past-mark Inv-loop μ-loop
 add-past-mark c =
@@ -56,11 +64,12 @@ past-mark-requires c κs =
     let passed = marks-passed _ _ (pre .marks) in
     record {
       costs = pre .sound .costs;
+      carried = progress-carried _ _ _ _ (loop .inv .progress) (pre .sound) (loop-test .taken);
       progress = record {
-        weight = weight-range _ _ _ _ (loop .inv .1) (pre .sound) (loop-test .taken);
-        time = loop .inv .2;
+        weight = weight-range _ _ _ _ (loop .inv .progress) (pre .sound) (loop-test .taken);
+        time = loop .inv .in-time;
       };
-      allowed = progress-allowed _ _ _ _ (loop .inv .1) (passed .stretches) (loop-test .taken);
+      allowed = progress-allowed _ _ _ _ (loop .inv .progress) (passed .stretches) (loop-test .taken);
       mark-range = marks-range _ _ (passed .marks) _ (loop-test .taken);
     }
 
@@ -82,7 +91,7 @@ returns c =
     let past-mark = c .before .before .before .past-mark in
     let if1 = c .if1 in
     let passed = marks-passed _ _ (pre .marks) in
-    let next = progress-past _ _ _ _ (loop .inv .1) (marks-range _ _ (passed .marks) _ (loop-test .taken)) in
+    let next = progress-past _ _ _ _ (loop .inv .progress) (marks-range _ _ (passed .marks) _ (loop-test .taken)) in
     sym (progress-slow _ _ (marks-end _ _ (passed .marks)) _ _ next (omega arith) (rw (past-mark .ensures .value) at (if1 .taken)))
 
 add-j : tie.Need-add-j Inv-loop μ-loop
@@ -100,11 +109,12 @@ loop-again c =
     let loop = c .before .before .before .before .before .before .before .loop in
     let loop-test = c .before .before .before .before .before .before .loop-test in
     let if1 = c .if1 in
-    let passed = marks-passed _ _ (pre .marks) in (
-      omega arith,
-      rw (past-mark .ensures .value) (progress-past _ _ _ _ (loop .inv .1) (marks-range _ _ (passed .marks) _ (loop-test .taken))),
-      if1 .left,
-    )
+    let passed = marks-passed _ _ (pre .marks) in
+    record {
+      to = omega arith;
+      progress = rw (past-mark .ensures .value) (progress-past _ _ _ _ (loop .inv .progress) (marks-range _ _ (passed .marks) _ (loop-test .taken)));
+      in-time = if1 .left;
+    }
 
 returns-2 : tie.Need-returns-2 Inv-loop μ-loop
 returns-2 c =
@@ -113,7 +123,7 @@ returns-2 c =
     let args = c .before .before .before .before .args in
     let passed = marks-passed _ _ (pre .marks) in
     let e : loop .j ≡ args .job .tasks = omega arith in
-    progress-time _ _ (marks-end _ _ (passed .marks)) _ (rw e at (loop .inv .1)) (loop .inv .2)
+    progress-time _ _ (marks-end _ _ (passed .marks)) _ (rw e at (loop .inv .progress)) (loop .inv .in-time)
 
 pub setting-time-spec : {M : Type 1} → statement M
 setting-time-spec =

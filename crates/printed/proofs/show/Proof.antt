@@ -1,7 +1,7 @@
 -- `printed::show` meets its contract. A plan's task count is in range. Assumes nothing.
 use native.Mathlib.Omega.{arith}
 use Rattle.sheet.specs.Reading.{jobOf}
-use Rattle.equations.proofs.Theorems.{printed-tasks}
+use Rattle.engine.proofs.Theorems.{printed-tasks}
 use borrow.Author.Needs.{needs}
 use Rattle.printed.proofs.show.Statement.{statement}
 use Rattle.printed.proofs.show.Tie as tie

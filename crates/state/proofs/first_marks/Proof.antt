@@ -6,12 +6,12 @@ use native.Mathlib.Omega.{arith}
 use borrow.Author.Needs.{needs}
 use Rattle.lists.specs.Lists.{tabulate}
 use Rattle.state.specs.State.{cleared}
-use Rattle.state.proofs.Fresh.{cleared-more, cleared-all}
+use Rattle.state.proofs.EntriesTaken.{Taken, taken-more, taken-all}
 use Rattle.state.proofs.first_marks.Statement.{statement}
 use Rattle.state.proofs.first_marks.Tie as tie
 
 abbrev Inv-loop : tie.InvT-loop
-Inv-loop marks n most held₀ j₀ held j = (j ≤ most) × (held ≡ cleared j marks)
+Inv-loop marks n most held₀ j₀ held j = Taken marks most held j
 
 abbrev μ-loop : tie.MeasureT-loop
 μ-loop marks n most held₀ j₀ held j = most - j
@@ -21,7 +21,7 @@ entries-requires c κs = search needs
 
 loop-holds : tie.Need-loop-holds Inv-loop μ-loop
 unfolding cleared tabulate
-loop-holds c = (search needs, refl)
+loop-holds c = record { to = search needs; entries = refl }
 
 shared-slice-read-held : tie.Need-shared-slice-read-held Inv-loop μ-loop
 shared-slice-read-held c = omega (arith, c .before .before .before .entries .ensures .list)
@@ -36,15 +36,11 @@ loop-less : tie.Need-loop-less Inv-loop μ-loop
 loop-less c = omega arith
 
 loop-again : tie.Need-loop-again Inv-loop μ-loop
-loop-again c = (omega arith, rw (c .before .before .loop .inv .1) (cleared-more _ _ (omega (arith, c .before .before .before .entries .ensures .room))))
+loop-again c = taken-more _ _ _ (c .before .before .before .entries .ensures) _ _ (c .before .before .loop .inv) (omega arith)
 
 returns : tie.Need-returns Inv-loop μ-loop
 returns c =
-    let loop = c .before .loop in
-    let entries = c .before .before .entries in
-    let args = c .before .before .before .before .args in
-    let e : loop .j ≡ entries .result = omega arith in
-    loop .inv .1 ∙ rw e (cleared-all (args .marks .now) (args .n) (entries .result) (entries .ensures))
+    taken-all _ _ _ (c .before .before .entries .ensures) _ _ (c .before .loop .inv) (omega arith)
 
 pub first-marks-spec : {M : Type 1} → statement M
 first-marks-spec =

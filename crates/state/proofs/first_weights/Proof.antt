@@ -8,12 +8,12 @@ use lib.ListN.{length}
 use Rattle.lists.specs.Lists.{tabulate}
 use Rattle.units.specs.Limits.{taskLimit}
 use Rattle.state.specs.State.{cleared}
-use Rattle.state.proofs.Fresh.{cleared-more, cleared-all}
+use Rattle.state.proofs.EntriesTaken.{Taken, taken-more, taken-all}
 use Rattle.state.proofs.first_weights.Statement.{statement}
 use Rattle.state.proofs.first_weights.Tie as tie
 
 abbrev Inv-loop : tie.InvT-loop
-Inv-loop n weights most held₀ j₀ held j = (j ≤ most) × (held ≡ cleared j weights)
+Inv-loop n weights most held₀ j₀ held j = Taken weights most held j
 
 abbrev μ-loop : tie.MeasureT-loop
 μ-loop n weights most held₀ j₀ held j = most - j
@@ -23,7 +23,7 @@ entries-requires c κs = search needs
 
 loop-holds : tie.Need-loop-holds Inv-loop μ-loop
 unfolding cleared tabulate
-loop-holds c = (search needs, refl)
+loop-holds c = record { to = search needs; entries = refl }
 
 mul-held : tie.Need-mul-held Inv-loop μ-loop
 mul-held c = omega (arith, c .before .before .entries .ensures .room)
@@ -44,16 +44,18 @@ loop-less : tie.Need-loop-less Inv-loop μ-loop
 loop-less c = omega arith
 
 loop-again : tie.Need-loop-again Inv-loop μ-loop
-loop-again c = (omega arith, rw (c .before .loop .inv .1) (cleared-more _ _ (omega (arith, c .before .before .entries .ensures .room))))
-
-returns : tie.Need-returns Inv-loop μ-loop
-returns c =
-    let loop = c .before .loop in
+loop-again c =
     let entries = c .before .before .entries in
     let args = c .before .before .before .args in
     let l : length (args .t1) ≡ taskLimit = search needs in
-    let e : loop .j ≡ entries .result = omega arith in
-    loop .inv .1 ∙ rw e (cleared-all (args .t1) (args .n) (entries .result) (rw l (entries .ensures)))
+    taken-more (args .t1) (args .n) (entries .result) (rw l (entries .ensures)) _ _ (c .before .loop .inv) (omega arith)
+
+returns : tie.Need-returns Inv-loop μ-loop
+returns c =
+    let entries = c .before .before .entries in
+    let args = c .before .before .before .args in
+    let l : length (args .t1) ≡ taskLimit = search needs in
+    taken-all (args .t1) (args .n) (entries .result) (rw l (entries .ensures)) _ _ (c .before .loop .inv) (omega arith)
 
 pub first-weights-spec : {M : Type 1} → statement M
 first-weights-spec =

@@ -13,7 +13,11 @@ rounded-up-requires c κs = omega (arith, product-range (c .fits .rate .fits) (c
 
 returns : tie.Need-returns
 unfolding up
-returns c = (c .rounded-up .ensures, omega (arith, c .rounded-up .ensures, product-range (c .before .fits .rate .fits) (c .before .pre)))
+returns c =
+    record {
+      value = c .rounded-up .ensures;
+      range = omega (arith, c .rounded-up .ensures, product-range (c .before .fits .rate .fits) (c .before .pre));
+    }
 
 pub exponent-of-spec : {M : Type 1} → statement M
 exponent-of-spec = tie.close (tie.spec mul-rounded-up rounded-up-requires returns)

@@ -15,7 +15,7 @@ add-result c = search needs
 
 returns : tie.Need-returns
 unfolding isAllowed
-returns c = rw (c .before .exponent-of .ensures .0, c .exponent-of2 .ensures .0)
+returns c = rw (c .before .exponent-of .ensures .value, c .exponent-of2 .ensures .value)
 
 pub is-allowed-spec : {M : Type 1} → statement M
 is-allowed-spec =

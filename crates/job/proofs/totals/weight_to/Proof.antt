@@ -1,7 +1,8 @@
 -- `job::totals::weight_to` meets its contract.
 -- The loop's invariant: the sum is the total of the weights passed, each below 2^32, so that it cannot wrap. The measure is what is left of the tasks. Assumes
 -- nothing.
-use Prim.Native.Nat.{_-_, _*_, _≤_, _^_}
+use mathlib.Core.List.{List}
+use Prim.Native.Nat.{ℕ, _-_, _*_, _≤_, _^_}
 use mathlib.Core.Path.{_≡_, refl}
 use native.Mathlib.Omega.{arith}
 use Rattle.job.specs.Job.{total}
@@ -10,15 +11,20 @@ use Rattle.job.proofs.totals.weight_to.Statement.{statement}
 use Rattle.job.proofs.totals.weight_to.Tie as tie
 use borrow.Author.Needs.{needs}
 
+record Added (weights : List ℕ) (n sum j : ℕ) : Type 0 where
+  to : j ≤ n
+  value : sum ≡ total weights j
+  range : sum ≤ j * 2 ^ 32
+
 abbrev Inv-loop : tie.InvT-loop
-Inv-loop n weights sum₀ j₀ sum j = (j ≤ n) × (sum ≡ total weights j) × (sum ≤ j * 2 ^ 32)
+Inv-loop n weights sum₀ j₀ sum j = Added weights n sum j
 
 abbrev μ-loop : tie.MeasureT-loop
 μ-loop n weights sum₀ j₀ sum j = n - j
 
 loop-holds : tie.Need-loop-holds Inv-loop μ-loop
 unfolding total
-loop-holds c = (omega arith, refl, omega arith)
+loop-holds c = record { to = omega arith; value = refl; range = omega arith }
 
 mul-wide : tie.Need-mul-wide Inv-loop μ-loop
 mul-wide c = omega arith
@@ -45,13 +51,13 @@ loop-again c =
     let args = c .before .before .before .args in
     let loop = c .before .before .loop in
     let wide = c .wide in
-    (omega arith, omega (arith, total-more (args .t1) (loop .j), wide .ensures .0), omega (arith, wide .ensures .1))
+    record { to = omega arith; value = omega (arith, total-more (args .t1) (loop .j), wide .ensures .0); range = omega (arith, wide .ensures .1) }
 
 returns : tie.Need-returns Inv-loop μ-loop
 returns c =
     let loop = c .before .loop in
     let args = c .before .before .args in
-    let e : loop .j ≡ args .n = omega arith in (rw (← e) (loop .inv .1), omega (arith, loop .inv .2))
+    let e : loop .j ≡ args .n = omega arith in (rw (← e) (loop .inv .value), omega (arith, loop .inv .range))
 
 pub weight-to-spec : {M : Type 1} → statement M
 weight-to-spec =

@@ -1,0 +1,16 @@
+-- `charges::cm_at` meets its contract. Every position has the platform's cost. Assumes nothing.
+use mathlib.Core.Path.{refl}
+use Rattle.costs.specs.Costs.{cmAt}
+use borrow.Author.Needs.{needs}
+use Rattle.charges.proofs.cm_at.Statement.{statement}
+use Rattle.charges.proofs.cm_at.Tie as tie
+
+cast-result : tie.Need-cast-result
+cast-result c = search needs
+
+returns : tie.Need-returns
+unfolding cmAt
+returns c = record { value = refl; fits = search needs }
+
+pub cm-at-spec : {M : Type 1} → statement M
+cm-at-spec = tie.close (tie.spec cast-result returns)

@@ -1,0 +1,2 @@
+-- Request 107 for a user's own marks.
+pub mod Dearer

@@ -1,0 +1,2 @@
+-- The laws of one mark's step.
+pub mod MarksPassed
