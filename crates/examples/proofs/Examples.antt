@@ -17,7 +17,7 @@ use Rattle.growth.specs.Growth.{ceilDiv, term, termSum, growthSum, growth, G, H
 use Rattle.chain.specs.Time.{last, times, D}
 use Rattle.job.specs.Job.{total, between, isAllowed, stretchAllowed}
 use Rattle.job.specs.Checks.{badCount, badCost, badWeight, badValue, badTask}
-use Rattle.sheet.specs.Layout.{tasks, offset, size, kind, indexOf, section, badLength, badForm, badSections, badExtent, badExtents, inSection, covered, strayByte, oneOfEach, badKinds}
+use Rattle.layout.specs.Layout.{tasks, offset, size, kind, indexOf, section, badLength, badForm, badSections, badExtent, badExtents, inSection, covered, strayByte, oneOfEach, badKinds}
 use Rattle.sheet.specs.Reading.{platformOf, weightsOf, jobOf}
 use Rattle.marks.specs.Pays.{table, paysOf}
 use Rattle.marks.specs.Marks.{badMarks, badStretch, badStretches, marksConditions}

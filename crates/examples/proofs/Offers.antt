@@ -21,7 +21,7 @@ use Rattle.chain.specs.Working.Search.{Rising, least, reachTo, reach, toVerific
 use Rattle.job.specs.Job.{total, between, isAllowed, stretchAllowed}
 use Rattle.job.specs.Checks.{badCount, badCost, badWeight, badValue, badTask}
 use Rattle.job.specs.declared.Job.{Job}
-use Rattle.sheet.specs.Layout.{tasks, offset, size, kind, indexOf, section, badLength, badForm, badSections, badExtent, badExtents, inSection, covered, strayByte, oneOfEach, badKinds}
+use Rattle.layout.specs.Layout.{tasks, offset, size, kind, indexOf, section, badLength, badForm, badSections, badExtent, badExtents, inSection, covered, strayByte, oneOfEach, badKinds}
 use Rattle.sheet.specs.Reading.{platformOf, weightsOf, jobOf, sheetRefusal}
 use Rattle.writing.specs.Form.{fieldBytes, fields, formOne}
 use Rattle.marks.specs.Marks.{badMarks, badStretch, badStretches}

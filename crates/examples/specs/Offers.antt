@@ -7,7 +7,7 @@ use Rattle.refusals.specs.declared.Answer.{Answer}
 use Rattle.job.specs.Job.{total}
 use Rattle.job.specs.declared.Platform.{Platform}
 use Rattle.job.specs.declared.Job.{Job}
-use Rattle.sheet.specs.Layout.{form, sections, leastOffset, platformLength, weightsLength}
+use Rattle.layout.specs.Layout.{form, sections, leastOffset, platformLength, weightsLength}
 use Rattle.sheet.specs.Reading.{sheetRefusal}
 use Rattle.writing.specs.Form.{fields, platformSection, weightsSection, formOne}
 use Rattle.costs.specs.Dearer.{Cost, DiskCopy, MemoryCopy, Verification, DiskRecovery, MemoryRecovery, costOf}

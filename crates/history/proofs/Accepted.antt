@@ -10,7 +10,7 @@ use Rattle.lists.proofs.Lists.{tabulate-same, getD-tabulate}
 use Rattle.units.specs.Limits.{taskLimit}
 use Rattle.refusals.specs.Refusals.{first, has, distinct, Numbered}
 use Rattle.refusals.proofs.Refusals.{first-clear, first-none}
-use Rattle.sheet.specs.Layout.{tasks, weightsKind, indexOf, section}
+use Rattle.layout.specs.Layout.{tasks, weightsKind, indexOf, section}
 use Rattle.sheet.specs.Reading.{sectionField, weightsOf, sheetConditions, sheetRefusal, jobOf}
 use Rattle.sheet.proofs.Readings.{sheet-sound}
 use Rattle.marks.specs.Marks.{marksConditions}

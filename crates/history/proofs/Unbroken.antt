@@ -18,7 +18,7 @@ use Rattle.job.specs.Checks.{jobConditions}
 use Rattle.job.specs.declared.Job.{Job}
 use Rattle.job.proofs.Weights.{total-more}
 use Rattle.sheet.specs.Reading.{jobOf}
-use Rattle.sheet.proofs.Sections.{layout-passed}
+use Rattle.layout.proofs.Sections.{layout-passed}
 use Rattle.sheet.proofs.Readings.{sheet-layout, sheet-goes-on}
 use Rattle.state.specs.State.{totalLimit, totalOf, marksIn, marksRead, brokenValues, badAwaiting, overTotal, brokenPlace, broken, fresh}
 use Rattle.following.specs.Run.{lastMemory, lastDisk, afterDone, afterPassed, backToMemory, backToDisk, placeAfter, nextPlace, outOfTurn, standing, stepOf}

@@ -12,7 +12,7 @@ use Rattle.refusals.proofs.Refusals.{first-clear, refused-here, refused-later, 
 use Rattle.units.specs.Limits.{taskLimit}
 use Rattle.job.specs.Job.{total}
 use Rattle.job.specs.declared.Job.{Job}
-use Rattle.sheet.specs.Layout.{weightsLength}
+use Rattle.layout.specs.Layout.{weightsLength}
 use Rattle.writing.specs.Form.{weightsStart}
 use Rattle.joining.specs.Join.{samePlatform, tooMany, tooHeavy, tooShort, joinedSheet, bothConditions}
 use Rattle.joining.specs.Working.Ready.{Both}

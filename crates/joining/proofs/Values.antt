@@ -20,7 +20,7 @@ use Rattle.job.specs.declared.Platform.{Platform}
 use Rattle.job.specs.declared.Job.{Job}
 use Rattle.job.proofs.Ranges.{ValuesPassed, value-passes, costs-right, weight-right}
 use Rattle.job.proofs.Weights.{total-more}
-use Rattle.sheet.specs.Layout.{weightsLength}
+use Rattle.layout.specs.Layout.{weightsLength}
 use Rattle.writing.specs.Form.{weightsStart}
 use Rattle.writing.proofs.Forms.{formJob, form-length}
 use Rattle.joining.specs.Join.{taskWeights, joinedWeights, joinedSheet, samePlatform}

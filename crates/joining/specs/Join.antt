@@ -13,7 +13,7 @@ use Rattle.units.specs.Limits.{taskLimit}
 use Rattle.job.specs.Job.{weightAt, total}
 use Rattle.job.specs.declared.Platform.{Platform}
 use Rattle.job.specs.declared.Job.{Job}
-use Rattle.sheet.specs.Layout.{platformKind, weightsKind, weightsLength, offset, indexOf, strayByte}
+use Rattle.layout.specs.Layout.{platformKind, weightsKind, weightsLength, offset, indexOf, strayByte}
 use Rattle.sheet.specs.Reading.{jobOf, sheetConditions, sheetRefusal, readingOf}
 use Rattle.writing.specs.Form.{platformStart, weightsStart, formOne, written}
 use Rattle.joining.specs.declared.Joined.{Joined}

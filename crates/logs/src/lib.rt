@@ -2,6 +2,8 @@
 ghost use mathlib.Core.Path.{_≡_};
 ghost use Prim.Native.Nat.{_<_};
 ghost use Rattle.logs.specs.Log.{recordCount, recordAt, badRecord, eventOf, emptyLog, orBefore, applied, logOf};
+use fields::byte;
+use fields::field;
 use following::Event;
 use following::Stepped;
 use following::accepted;
@@ -9,8 +11,6 @@ use following::refused;
 use following::step;
 use refusals::BAD_RECORD;
 use refusals::BROKEN;
-use sheet::bytes::byte;
-use sheet::bytes::field;
 use state::Run;
 use state::rules::broken;
 

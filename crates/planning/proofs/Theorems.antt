@@ -17,10 +17,10 @@ use Rattle.refusals.proofs.Answers.{answered-accepted, answer-same}
 use Rattle.chain.specs.Chain.{Chain}
 use Rattle.chain.specs.Working.Search.{Rising, leastD}
 use Rattle.chain.proofs.Theorems.{plan-is-least, plan-is-determined}
-use Rattle.sheet.specs.Layout.{tasks}
+use Rattle.layout.specs.Layout.{tasks}
 use Rattle.sheet.specs.Reading.{jobOf, sheetRefusal}
 use Rattle.sheet.proofs.Readings.{sheet-layout, sheet-sound}
-use Rattle.sheet.proofs.Sections.{layout-tasks}
+use Rattle.layout.proofs.Sections.{layout-tasks}
 use Rattle.units.specs.Limits.{taskLimit}
 use Rattle.marks.specs.Marks.{marksOf}
 use Rattle.costs.specs.Stretch.{chainOf, timeOf}

@@ -18,68 +18,17 @@ use Rattle.refusals.specs.Refusals.{first}
 use Rattle.units.specs.Limits.{taskLimit}
 use Rattle.job.specs.declared.Platform.{Platform}
 use Rattle.job.specs.declared.Job.{Job}
-use Rattle.sheet.specs.Bytes.{byteAt, fieldAt, fieldLength}
-use Rattle.sheet.specs.Layout.{
-  form,
-  sections,
-  platformKind,
-  weightsKind,
-  platformLength,
-  weightsLength,
-  leastOffset,
-  tasks,
-  offset,
-  size,
-  kind,
-  indexOf,
-  section,
-  oneOfEach,
-  badForm,
-  badSections,
-  badKinds,
-  layoutConditions,
-}
+use Rattle.fields.specs.Bytes.{byteAt, fieldAt, fieldLength}
+use Rattle.layout.specs.Layout.{form, sections, platformKind, weightsKind, platformLength, weightsLength, leastOffset, tasks, offset, size, kind, indexOf, section, oneOfEach, badForm, badSections, badKinds, layoutConditions}
 use Rattle.sheet.specs.Reading.{sectionField, platformOf, weightsOf, jobOf, sheetRefusal, readingOf}
 use Rattle.sheet.specs.declared.JobReading.{JobReading}
-use Rattle.sheet.specs.Whole.{AreBytes, header}
-use Rattle.sheet.proofs.Sections.{extents-placed, layout-passed, layout-tasks, layout-weights, section-within}
+use Rattle.fields.specs.Bytes.{AreBytes}
+use Rattle.layout.specs.Whole.{header}
+use Rattle.layout.proofs.Sections.{extents-placed, layout-passed, layout-tasks, layout-weights, section-within}
 use Rattle.sheet.proofs.Readings.{sheet-layout, reading-number, reading-job}
-use Rattle.sheet.proofs.Before.{field-agrees, offset-kept}
-use Rattle.sheet.proofs.Whole.{EndToEnd, end-to-end, same-parts}
-
--- a piece of a list of bytes is one
-piece-bytes : (s : List ℕ) → AreBytes s → (n a : ℕ) → AreBytes (take n (drop a s))
-piece-bytes s bytes n a i = go (decLt i n)
-  where
-    go : Dec (i < n) → byteAt (take n (drop a s)) i < 2 ^ 8
-    go (yes h) = rw (getD-take n (drop a s) i 0 h, getD-drop a s i 0) (bytes (a + i))
-    go (no h) = rw (List·getD-eq-default (take n (drop a s)) 0 {n = i} (omega (arith, length-take n (drop a s)))) (lit< tt)
-
-module _ (p q : List ℕ) (bytes-p : AreBytes p) (bytes-q : AreBytes q) where
-  below : (i : ℕ) → (byteAt p i < 2 ^ 8) × (byteAt q i < 2 ^ 8)
-  below i = (bytes-p i, bytes-q i)
-
-  -- the same field has the same bytes
-  field-bytes : (a : ℕ) → fieldAt p a ≡ fieldAt q a → (j : ℕ) → j < fieldLength → byteAt p (a + j) ≡ byteAt q (a + j)
-  field-bytes a e zero h = let start : a + 0 ≡ a = omega arith in rw start (omega (arith, e, below a, below (a + 1), below (a + 2), below (a + 3)))
-  field-bytes a e (suc zero) h = omega (arith, e, below a, below (a + 1), below (a + 2), below (a + 3))
-  field-bytes a e (suc (suc zero)) h = omega (arith, e, below a, below (a + 1), below (a + 2), below (a + 3))
-  field-bytes a e (suc (suc (suc zero))) h = omega (arith, e, below a, below (a + 1), below (a + 2), below (a + 3))
-  field-bytes a e (suc (suc (suc (suc j)))) h = absurd (omega arith)
-
-  -- some bytes, then fields
-  fields-same : (lead n : ℕ) → length p ≡ lead + fieldLength * n → length q ≡ lead + fieldLength * n
-      → ((i : ℕ) → i < lead → byteAt p i ≡ byteAt q i)
-      → ((i : ℕ) → i < n → fieldAt p (lead + fieldLength * i) ≡ fieldAt q (lead + fieldLength * i)) → p ≡ q
-  fields-same lead n lp lq led fields = ext-getD 0 p q (lp ∙ sym lq) (λ i h. at i h (decLt i lead))
-    where
-      at : (i : ℕ) → i < length p → Dec (i < lead) → byteAt p i ≡ byteAt q i
-      at i h (yes l) = led i l
-      at i h (no l) =
-          let m : ℕ = (i - lead) / fieldLength in
-          let j : ℕ = (i - lead) % fieldLength in
-          let e : lead + fieldLength * m + j ≡ i = omega arith in
-          rw e at (field-bytes (lead + fieldLength * m) (fields m (omega arith)) j (omega arith))
+use Rattle.fields.proofs.Bytes.{field-agrees, piece-bytes, fields-same, bytes-set}
+use Rattle.layout.proofs.Before.{offset-kept}
+use Rattle.layout.proofs.Whole.{EndToEnd, end-to-end, same-parts}
 
 -- the seven fields of a platform
 platform-fields : (p q : List ℕ) → platformOf p ≡ platformOf q → (i : ℕ) → i < 7 → sectionField p i ≡ sectionField q i
@@ -302,14 +251,6 @@ module _ (s : List ℕ) (i b : ℕ) (clear : first (layoutConditions s) ≡ 0) (
           other-kind s (set s i b) clear clear'
           (rw (offset-kept s i b (omega arith) 1 (lit< tt))
           (sym (getD-set-other s i (offset s 1) b 0 (λ e. omega (arith, one .start, one .next, extents-placed s (layout-passed s clear .extents) .first-placed .some-byte)))))
-
-bytes-set : (s : List ℕ) (i b : ℕ) → AreBytes s → b < 2 ^ 8 → AreBytes (set s i b)
-bytes-set s i b bytes h j = go (ℕ-discrete j i) (decLt i (length s))
-  where
-    go : Dec (j ≡ i) → Dec (i < length s) → byteAt (set s i b) j < 2 ^ 8
-    go (no q) l = rw (getD-set-other s i j b 0 q) (bytes j)
-    go (yes q) (yes l) = rw (q, getD-set-same s i b 0 l) h
-    go (yes q) (no l) = rw (List·getD-eq-default (set s i b) 0 {n = j} (omega (arith, length-set s i b))) (lit< tt)
 
 -- no byte of an accepted sheet can change and leave its reading as it was
 pub one-byte : (s : List ℕ) (i b : ℕ) → AreBytes s → b < 2 ^ 8 → readingOf s .number ≡ Numbers.accepted → readingOf (set s i b) ≡ readingOf s

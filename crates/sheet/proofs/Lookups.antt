@@ -11,9 +11,9 @@ use lib.ListN.{length, take, drop}
 use Rattle.refusals.specs.Numbers
 use Rattle.refusals.specs.Refusals.{refusal, first}
 use Rattle.refusals.proofs.Refusals.{first-stands, first-goes-on, first-none}
-use Rattle.sheet.specs.Layout.{platformKind, weightsKind, offset, size, indexOf, section, layoutConditions}
+use Rattle.layout.specs.Layout.{platformKind, weightsKind, offset, size, indexOf, section, layoutConditions}
 use Rattle.sheet.specs.Lookup.{lookupRefusal, foundOf}
-use Rattle.sheet.proofs.Sections.{layout-numbered, section-ends}
+use Rattle.layout.proofs.Sections.{layout-numbered, section-ends}
 
 -- a part from a start to an end is so many bytes from the start
 pub part-is : (l : List ℕ) (size : ℕ) {a e start : ℕ} → a ≡ start → e ≡ a + size → take (e - a) (drop a l) ≡ take size (drop start l)

@@ -10,9 +10,9 @@ use Rattle.job.specs.Checks.{jobConditions}
 use Rattle.job.specs.Working.Sound.{Sound}
 use Rattle.job.specs.declared.Job.{Job}
 use Rattle.job.proofs.Ranges.{job-sound}
-use Rattle.sheet.specs.Layout.{tasks, weightsLength, section, layoutConditions}
+use Rattle.layout.specs.Layout.{tasks, weightsLength, section, layoutConditions}
 use Rattle.sheet.specs.Reading.{weightsOf, jobOf, sheetConditions, sheetRefusal, refusedReading, readingOf, sheetOf}
-use Rattle.sheet.proofs.Sections.{layout-numbered, layout-passed, layout-weights}
+use Rattle.layout.proofs.Sections.{layout-numbered, layout-passed, layout-weights}
 
 pub sheet-numbered : (s : List ℕ) → Numbered (sheetConditions s)
 unfolding has distinct

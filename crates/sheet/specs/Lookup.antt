@@ -8,7 +8,7 @@ use lib.Dec.{eqb}
 use lib.ListN.{take, drop}
 use Rattle.refusals.specs.Numbers
 use Rattle.refusals.specs.Refusals.{Condition, refusal, first}
-use Rattle.sheet.specs.Layout.{platformKind, weightsKind, offset, size, indexOf, layoutConditions}
+use Rattle.layout.specs.Layout.{platformKind, weightsKind, offset, size, indexOf, layoutConditions}
 use Rattle.sheet.specs.declared.Found.{Found}
 
 -- checks 1 to 6; a kind that the sheet lacks gives 6

@@ -2,12 +2,12 @@
 ghost use mathlib.Core.Path.{_≡_};
 ghost use Rattle.sheet.specs.Lookup.{lookupRefusal, foundOf, View};
 use crate::Found;
-use crate::PLATFORM_KIND;
-use crate::WEIGHTS_KIND;
-use crate::layout::index_of;
-use crate::layout::layout_refusal;
-use crate::layout::offset_of;
-use crate::layout::size_of;
+use layout::PLATFORM_KIND;
+use layout::WEIGHTS_KIND;
+use layout::index_of;
+use layout::layout_refusal;
+use layout::offset_of;
+use layout::size_of;
 use refusals::BAD_KINDS;
 
 // The first of checks 1 to 6 that holds, 6 for a kind that the sheet lacks, or 0.

@@ -5,7 +5,7 @@ use mathlib.Core.List.{List, [], _∷_, _++_, append-assoc}
 use native.Mathlib.Omega.{arith}
 use lib.ListN.{length, getD}
 use lib.Seq.{getD-append-add}
-use Rattle.sheet.specs.Bytes.{byteAt, fieldAt, fieldLength}
+use Rattle.fields.specs.Bytes.{byteAt, fieldAt, fieldLength}
 use Rattle.writing.specs.Form.{fieldBytes, fields}
 
 -- a field that is written first is the field that is read at 0

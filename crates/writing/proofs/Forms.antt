@@ -19,33 +19,10 @@ use Rattle.job.specs.Checks.{badCount, jobConditions}
 use Rattle.job.proofs.Ranges.{count-range}
 use Rattle.job.specs.declared.Platform.{Platform}
 use Rattle.job.specs.declared.Job.{Job}
-use Rattle.sheet.specs.Bytes.{fieldLength}
-use Rattle.sheet.specs.Layout.{
-  tasks,
-  offset,
-  size,
-  kind,
-  indexOf,
-  section,
-  platformKind,
-  weightsKind,
-  platformLength,
-  weightsLength,
-  shortestSheet,
-  longestSheet,
-  badLength,
-  badForm,
-  badSections,
-  badExtent,
-  badExtents,
-  strayByte,
-  contiguous,
-  oneOfEach,
-  badKinds,
-  layoutConditions,
-}
+use Rattle.fields.specs.Bytes.{fieldLength}
+use Rattle.layout.specs.Layout.{tasks, offset, size, kind, indexOf, section, platformKind, weightsKind, platformLength, weightsLength, shortestSheet, longestSheet, badLength, badForm, badSections, badExtent, badExtents, strayByte, contiguous, oneOfEach, badKinds, layoutConditions}
 use Rattle.sheet.specs.Reading.{sectionField, platformOf, weightsOf, jobOf, readingOf}
-use Rattle.sheet.proofs.Stray.{stray-contiguous}
+use Rattle.layout.proofs.Stray.{stray-contiguous}
 use Rattle.sheet.proofs.Readings.{sheet-goes-on, reading-accepted}
 use Rattle.writing.specs.Form.{fieldBytes, fields, platformStart, weightsStart, platformFields, platformSection, weightsSection, formOne}
 use Rattle.writing.proofs.Fields.{field-read, length-fields, field-after, fields-read}

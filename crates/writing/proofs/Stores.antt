@@ -8,8 +8,8 @@ use native.Mathlib.Omega.{arith}
 use lib.ListN.{length, getD, take, set, length-append}
 use lib.Seq.{sets, sets-eq, take-suc, length-take-le}
 use Rattle.job.specs.declared.Platform.{Platform}
-use Rattle.sheet.specs.Bytes.{fieldLength}
-use Rattle.sheet.specs.Layout.{platformLength, weightsLength}
+use Rattle.fields.specs.Bytes.{fieldLength}
+use Rattle.layout.specs.Layout.{platformLength, weightsLength}
 use Rattle.writing.specs.Form.{fieldBytes, fields, platformStart, weightsStart, platformFields, header, platformSection, weightsSection, formOne, written}
 use Rattle.writing.proofs.Fields.{length-fields, fields-append}
 use Rattle.writing.proofs.Forms.{form-length}

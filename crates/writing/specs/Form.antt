@@ -3,7 +3,7 @@ use Prim.Native.Nat.{ℕ, _/_, _%_, _^_}
 use mathlib.Core.List.{List, [], _∷_, _++_}
 use lib.ListN.{length, drop}
 use Rattle.job.specs.declared.Platform.{Platform}
-use Rattle.sheet.specs.Layout.{form, sections, platformKind, weightsKind, platformLength, weightsLength}
+use Rattle.layout.specs.Layout.{form, sections, platformKind, weightsKind, platformLength, weightsLength}
 
 -- a field: 4 bytes, lowest first. A field is below 2^32, so that its last byte is one too
 unfoldable pub fieldBytes : ℕ → List ℕ

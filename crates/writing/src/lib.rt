@@ -6,18 +6,18 @@ ghost use Prim.Native.Nat.{_+_, _*_, _≤_};
 ghost use lib.ListN.{length};
 ghost use lib.Seq.{sets};
 ghost use Rattle.units.specs.Limits.{taskLimit};
-ghost use Rattle.sheet.specs.Bytes.{fieldLength};
-ghost use Rattle.sheet.specs.Layout.{platformLength, weightsLength};
+ghost use Rattle.fields.specs.Bytes.{fieldLength};
+ghost use Rattle.layout.specs.Layout.{platformLength, weightsLength};
 ghost use Rattle.writing.specs.Form.{fieldBytes, fields, platformStart, weightsStart, header, platformSection, weightsSection, formOne, written};
 ghost use Rattle.writing.specs.Working.Ready.{ReadyForHeader, ReadyForSheet};
+use fields::FIELD_LENGTH;
 use job::Platform;
-use sheet::PLATFORM_KIND;
-use sheet::WEIGHTS_KIND;
-use sheet::bytes::FIELD_LENGTH;
-use sheet::layout::FORM;
-use sheet::layout::PAIRS_START;
-use sheet::layout::PLATFORM_LENGTH;
-use sheet::layout::SECTIONS;
+use layout::FORM;
+use layout::PAIRS_START;
+use layout::PLATFORM_KIND;
+use layout::PLATFORM_LENGTH;
+use layout::SECTIONS;
+use layout::WEIGHTS_KIND;
 
 const PLATFORM_START: usize = 20;
 

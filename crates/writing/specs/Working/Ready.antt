@@ -3,7 +3,7 @@ use Prim.Native.Nat.{ℕ, _+_, _≤_}
 use mathlib.Core.List.{List}
 use lib.ListN.{length}
 use Rattle.units.specs.Limits.{taskLimit}
-use Rattle.sheet.specs.Layout.{weightsLength}
+use Rattle.layout.specs.Layout.{weightsLength}
 use Rattle.writing.specs.Form.{platformStart, weightsStart}
 
 -- a task count that a byte holds, and room for the header before the platform

@@ -1,7 +1,7 @@
 -- `sheet::lookup::find` meets its contract. The lookup's number by the branch: the section found, or the empty stretch. Assumes nothing.
 use mathlib.Core.Path.{_∙_, sym, ap}
 use Rattle.sheet.proofs.Lookups.{found-refused, found-section}
-use Rattle.sheet.specs.Layout.{offset, size}
+use Rattle.layout.specs.Layout.{offset, size}
 use borrow.Author.Needs.{needs}
 use Rattle.sheet.proofs.lookup.find.Statement.{statement}
 use Rattle.sheet.proofs.lookup.find.Tie as tie

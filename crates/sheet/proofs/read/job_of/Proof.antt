@@ -1,10 +1,10 @@
 -- `sheet::read::job_of` meets its contract. The task count and the two sections, each looked up and handed to its reader. Assumes nothing.
 use mathlib.Core.Path.{refl}
 use native.Mathlib.Omega.{arith}
-use Rattle.sheet.specs.Layout.{platformKind, weightsKind}
+use Rattle.layout.specs.Layout.{platformKind, weightsKind}
 use Rattle.sheet.specs.Reading.{jobOf}
 use Rattle.sheet.proofs.Lookups.{lookup-section}
-use Rattle.sheet.proofs.Sections.{layout-tasks}
+use Rattle.layout.proofs.Sections.{layout-tasks}
 use borrow.Author.Needs.{needs}
 use Rattle.sheet.proofs.read.job_of.Statement.{statement}
 use Rattle.sheet.proofs.read.job_of.Tie as tie

@@ -1,7 +1,7 @@
 -- `sheet::read::read` meets its contract. The reading's number decides between the two cases, and the values are those of its job. Assumes nothing.
 use mathlib.Core.Path.{refl, sym, _∙_, ap}
 use native.Mathlib.Omega.{arith}
-use Rattle.sheet.specs.Layout.{weightsKind}
+use Rattle.layout.specs.Layout.{weightsKind}
 use Rattle.sheet.specs.Reading.{jobOf, sheetOf, Says}
 use Rattle.sheet.specs.declared.Found.{Found}
 use Rattle.sheet.specs.declared.JobReading.{JobReading}

@@ -1,0 +1,2 @@
+-- The laws of bytes and fields that the crates above cite.
+pub mod Bytes
