@@ -1,6 +1,6 @@
 // Runs the examples of document 01 that are not starred, and prints what each gives; the starred ones are proved (`starred-examples`).
 ghost use Rattle.io.specs.Counts.{Counts};
-use layout::SHEET_ROOM;
+use header::SHEET_ROOM;
 use libc::STDOUT_FILENO;
 use units::TASK_LIMIT;
 

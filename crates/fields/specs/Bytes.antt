@@ -1,5 +1,6 @@
 -- Bytes and fields of a list of bytes.
 use Prim.Native.Nat.{ℕ, _+_, _*_, _^_, _<_}
+use mathlib.Core.Path.{_≡_}
 use mathlib.Core.List.{List}
 use lib.ListN.{getD}
 
@@ -17,3 +18,8 @@ fieldLength = 4
 -- a list of bytes: what stands in it is below 2^8
 abbrev pub AreBytes : List ℕ → Type 0
 AreBytes l = (i : ℕ) → byteAt l i < 2 ^ 8
+
+-- a result that is this value, and below this bound
+pub record Ranged (value bound result : ℕ) : Type 0 where
+  pub is : result ≡ value
+  pub range : result < bound

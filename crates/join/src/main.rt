@@ -3,8 +3,8 @@
 ghost use mathlib.Core.Path.{_≡_};
 ghost use Rattle.io.specs.Counts.{Counts};
 use console::Taken;
-use layout::LONGEST_SHEET;
-use layout::SHEET_ROOM;
+use header::LONGEST_SHEET;
+use header::SHEET_ROOM;
 use libc::STDERR_FILENO;
 use libc::STDOUT_FILENO;
 

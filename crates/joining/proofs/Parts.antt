@@ -6,7 +6,7 @@ use native.Mathlib.Omega.{arith}
 use lib.ListN.{length, take, drop}
 use Rattle.lists.proofs.Lists.{length-tabulate}
 use Rattle.units.specs.Limits.{taskLimit}
-use Rattle.layout.specs.Layout.{weightsKind, weightsLength}
+use Rattle.kinds.specs.Kinds.{weightsKind, weightsLength}
 use Rattle.sheet.specs.Reading.{weightsOf, jobOf, sheetOf, sheetRefusal}
 use Rattle.sheet.specs.declared.Sheet.{Sheet}
 use Rattle.layout.proofs.Sections.{layout-tasks, layout-weights, section-ends}

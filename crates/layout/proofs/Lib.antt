@@ -1,5 +1,5 @@
--- The laws of layouts that the crate's own proofs and the crates above cite.
+-- The laws of layouts that the crates above cite.
 pub mod Sections
-pub mod Stray
 pub mod Before
 pub mod Whole
+pub mod Alike

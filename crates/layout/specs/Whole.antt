@@ -1,24 +1,16 @@
 -- Request 105: an accepted sheet is its header and its sections and nothing else; what the request changed.
-use Prim.Native.Nat.{ℕ, _^_, _≤_, _<_}
+use Prim.Native.Nat.{ℕ, zero, suc, _≤_, _<_}
 use mathlib.Core.Path.{_≡_}
 use mathlib.Core.Bool.{true, false}
 use mathlib.Core.List.{List, [], _∷_, _++_}
 use lib.ListN.{length, take}
 use Rattle.refusals.specs.Numbers
 use Rattle.refusals.specs.Refusals.{Condition, refusal, first, has}
-use Rattle.fields.specs.Bytes.{byteAt}
-use Rattle.layout.specs.Layout.{leastOffset, sections, offset, size, indexOf, section, badExtents, inSection, covered, strayByte, badKinds, headerConditions, layoutConditions}
-
--- byte i, from 20 on and before the sheet's end, is in no section
-pub record IsStray (s : List ℕ) (i : ℕ) : Type 0 where
-  pub from : leastOffset ≤ i
-  pub before : i < length s
-  pub in-none : (k : ℕ) → k < sections → inSection s k i ≡ false
-
--- the sheet has such a byte
-pub record HasStray (s : List ℕ) : Type 0 where
-  pub at : ℕ
-  pub stray : IsStray s at
+use Rattle.header.specs.Header.{sections, leastOffset, section, headerConditions}
+use Rattle.extents.specs.Extents.{badExtents, covered, strayByte}
+use Rattle.extents.specs.Stray.{HasStray}
+use Rattle.kinds.specs.Kinds.{badKinds}
+use Rattle.layout.specs.Layout.{layoutConditions}
 
 -- checks 1 to 5
 abbrev pub conditionsTo5 : List ℕ → List Condition
@@ -47,11 +39,16 @@ strayNumber s = first (conditionsTo5 s ++ (refusal Numbers.strayByte true ∷ []
 
 -- the header: the bytes before 20
 abbrev pub header : List ℕ → List ℕ
-header s = take leastOffset s
+header s = take (leastOffset s) s
+
+-- the first m sections, one after the other
+unfoldable pub sectionsTo : List ℕ → ℕ → List ℕ
+sectionsTo s zero = []
+sectionsTo s (suc i) = sectionsTo s i ++ section s i
 
 -- what is known of a sheet that passes checks 1 to 6
 pub record Whole (s : List ℕ) : Type 0 where
   -- each byte from 20 on is in a section
-  pub all-covered : (i : ℕ) → leastOffset ≤ i → i < length s → covered s i ≡ true
-  -- the sheet is its header and its two sections, in this order
-  pub parts : s ≡ header s ++ (section s 0 ++ section s 1)
+  pub all-covered : (i : ℕ) → leastOffset s ≤ i → i < length s → covered s i ≡ true
+  -- the sheet is its header and its sections, in their order
+  pub parts : s ≡ header s ++ sectionsTo s (sections s)

@@ -17,7 +17,7 @@ use Rattle.refusals.proofs.Answers.{answered-accepted, answer-same}
 use Rattle.chain.specs.Chain.{Chain}
 use Rattle.chain.specs.Working.Search.{Rising, leastD}
 use Rattle.chain.proofs.Theorems.{plan-is-least, plan-is-determined}
-use Rattle.layout.specs.Layout.{tasks}
+use Rattle.header.specs.Header.{tasks}
 use Rattle.sheet.specs.Reading.{jobOf, sheetRefusal}
 use Rattle.sheet.proofs.Readings.{sheet-layout, sheet-sound}
 use Rattle.layout.proofs.Sections.{layout-tasks}

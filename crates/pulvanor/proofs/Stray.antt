@@ -13,7 +13,8 @@ use Rattle.refusals.proofs.Refusals.{first-goes-on}
 use Rattle.layout.specs.Layout.{layoutConditions}
 use Rattle.sheet.specs.Lookup.{lookupRefusal, foundOf}
 use Rattle.sheet.specs.Reading.{sheetConditions, sheetRefusal, readingOf, Says, Reads}
-use Rattle.layout.specs.Whole.{HasStray, conditionsTo5}
+use Rattle.extents.specs.Stray.{HasStray}
+use Rattle.layout.specs.Whole.{conditionsTo5}
 use Rattle.sheet.specs.declared.Reading.{Reading}
 use Rattle.sheet.specs.declared.Reading.the-variants.{Accepted, Refused}
 use Rattle.sheet.proofs.Readings.{sheet-numbered}

@@ -12,9 +12,11 @@ use Rattle.refusals.specs.Numbers
 use Rattle.refusals.specs.Refusals.{Condition, refusal, first}
 use Rattle.refusals.proofs.Refusals.{first-clear, first-stands}
 use Rattle.job.specs.declared.Job.{Job}
-use Rattle.layout.specs.Layout.{platformKind, weightsKind, indexOf, badExtents, badKinds}
-use Rattle.layout.specs.Whole.{IsStray, conditionsTo5, conditionsBefore}
-use Rattle.layout.proofs.Sections.{index-lt}
+use Rattle.kinds.specs.Kinds.{platformKind, weightsKind, indexOf, badKinds}
+use Rattle.extents.specs.Extents.{badExtents}
+use Rattle.extents.specs.Stray.{IsStray}
+use Rattle.layout.specs.Whole.{conditionsTo5, conditionsBefore}
+use Rattle.kinds.proofs.Indices.{index-lt}
 use Rattle.layout.proofs.Before.{to5-numbered, stray-number, tasks-kept, to5-kept, stays, section-kept, index-kept, kinds-kept, place-kept}
 use Rattle.sheet.specs.Reading.{jobOf}
 use Rattle.sheet.specs.Closed.{Closed}

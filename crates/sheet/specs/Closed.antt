@@ -5,7 +5,10 @@ use mathlib.Core.Bool.{false}
 use mathlib.Core.List.{List, _++_}
 use Rattle.refusals.specs.Refusals.{Condition, first}
 use Rattle.job.specs.declared.Job.{Job}
-use Rattle.layout.specs.Layout.{offset, size, indexOf, badExtents, layoutConditions}
+use Rattle.header.specs.Header.{offset, size}
+use Rattle.kinds.specs.Kinds.{indexOf}
+use Rattle.extents.specs.Extents.{badExtents}
+use Rattle.layout.specs.Layout.{layoutConditions}
 use Rattle.layout.specs.Whole.{conditionsBefore, strayNumber}
 use Rattle.sheet.specs.Reading.{jobOf}
 

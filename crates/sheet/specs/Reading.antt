@@ -12,7 +12,9 @@ use Rattle.job.specs.Checks.{jobConditions}
 use Rattle.job.specs.declared.Platform.{Platform}
 use Rattle.job.specs.declared.Job.{Job}
 use Rattle.fields.specs.Bytes.{fieldAt, fieldLength}
-use Rattle.layout.specs.Layout.{platformKind, weightsKind, tasks, offset, indexOf, section, layoutConditions}
+use Rattle.kinds.specs.Kinds.{platformKind, weightsKind, indexOf}
+use Rattle.header.specs.Header.{tasks, offset, section}
+use Rattle.layout.specs.Layout.{layoutConditions}
 use Rattle.sheet.specs.declared.Sheet.{Sheet}
 use Rattle.sheet.specs.declared.JobReading.{JobReading}
 use Rattle.sheet.specs.declared.Reading.{Reading}

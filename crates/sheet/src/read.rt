@@ -12,13 +12,13 @@ use crate::lookup::find;
 use crate::lookup::lookup;
 use fields::FIELD_LENGTH;
 use fields::field;
+use header::task_count;
 use job::Job;
 use job::Platform;
 use job::checks::job_refusal;
-use layout::PLATFORM_KIND;
-use layout::WEIGHTS_KIND;
+use kinds::PLATFORM_KIND;
+use kinds::WEIGHTS_KIND;
 use layout::layout_refusal;
-use layout::task_count;
 use units::TASK_LIMIT;
 
 // Field i of a section, from 0: they follow its kind byte.

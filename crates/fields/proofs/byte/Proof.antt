@@ -7,7 +7,7 @@ use Rattle.fields.proofs.byte.Statement.{statement}
 use Rattle.fields.proofs.byte.Tie as tie
 
 returns : tie.Need-returns
-returns c = (sym (List·getD-eq-default (c .before .before .args .part .now) 0 (c .if1 .taken)), lit< tt)
+returns c = record { is = sym (List·getD-eq-default (c .before .before .args .part .now) 0 (c .if1 .taken)); range = lit< tt }
 
 shared-slice-read-wide : tie.Need-shared-slice-read-wide
 shared-slice-read-wide c = search needs

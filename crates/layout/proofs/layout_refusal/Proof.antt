@@ -2,8 +2,9 @@
 use mathlib.Core.Path.{sym, _∙_}
 use native.Mathlib.Omega.{arith}
 use Rattle.refusals.proofs.Refusals.{first-stands, first-goes-on}
-use Rattle.layout.specs.Layout.{headerConditions, sectionConditions}
-use Rattle.layout.proofs.Sections.{header-numbered}
+use Rattle.header.specs.Header.{headerConditions}
+use Rattle.layout.specs.Layout.{sectionConditions}
+use Rattle.header.proofs.Header.{header-numbered}
 use borrow.Author.Needs.{needs}
 use Rattle.layout.proofs.layout_refusal.Statement.{statement}
 use Rattle.layout.proofs.layout_refusal.Tie as tie

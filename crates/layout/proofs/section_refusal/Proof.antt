@@ -3,7 +3,7 @@
 use mathlib.Core.Path.{sym, _∙_, ap}
 use mathlib.Core.Bool.{not}
 use Rattle.refusals.proofs.Refusals.{refused-here, refused-later, refused-none}
-use Rattle.layout.proofs.Stray.{stray-contiguous}
+use Rattle.extents.proofs.Stray.{stray-contiguous}
 use borrow.Author.Needs.{needs}
 use Rattle.layout.proofs.section_refusal.Statement.{statement}
 use Rattle.layout.proofs.section_refusal.Tie as tie
