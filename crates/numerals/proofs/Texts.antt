@@ -1,19 +1,18 @@
 -- Laws of texts of digits, of the numbers that they give, and of a list that a loop fills from the front. Assumes nothing.
-use Rattle.io.specs.Counts.{Counts}
 use Prim.Native.Nat.{ℕ, _+_, _-_, _*_, _≤_, _<_}
 use mathlib.Core.Path.{_≡_, refl, _∙_, sym}
 use mathlib.Core.Bool.{Bool, true, false, not, or-true, and-false, true≢false, false≢true}
-use mathlib.Core.List.{List, _++_}
+use mathlib.Core.List.{List}
 use native.Mathlib.Decide.{ℕ-discrete, decLe}
 use native.Mathlib.Numerals.{add-one}
 use native.Mathlib.Omega.{arith}
 use borrow.Author.Tests.{lt-ltb, le-ltb, ltb-false, eq-eqb, ne-eqb}
 use lib.Dec.{ltb, eqb}
-use lib.ListN.{length, getD, set, length-append}
-use lib.Seq.{getD-set-same, getD-set-other, take-at}
+use lib.ListN.{length, getD, set}
+use lib.Seq.{getD-set-same, getD-set-other}
 use Rattle.lists.specs.Lists.{some}
 use Rattle.lists.proofs.Lists.{or-fails}
-use Rattle.console.specs.Digits.{zero-code, nine-code, base, noDigit, MarksOf, isNumber, numberTo, wordMost, inWord, NumberOf}
+use Rattle.numerals.specs.Digits.{zero-code, nine-code, base, noDigit, MarksOf, isNumber, numberTo, wordMost, inWord, NumberOf}
 
 -- one element more of a list that is filled from the front
 pub filled-more : (l : List ℕ) (f : ℕ → ℕ) (j : ℕ) → j < length l → ((i : ℕ) → i < j → getD l i 0 ≡ f i) → (i : ℕ) → i < j + 1 → getD (set l j (f j)) i 0 ≡ f i
@@ -98,7 +97,3 @@ left-as-is text e = record { long = refl; digits = e; marks = λ q. absurd (fals
 -- what a store at j leaves after j
 pub kept-after : (l l₀ : List ℕ) (a j : ℕ) → ((i : ℕ) → j ≤ i → getD l i 0 ≡ getD l₀ i 0) → (i : ℕ) → j + 1 ≤ i → getD (set l j a) i 0 ≡ getD l₀ i 0
 kept-after l l₀ a j same i h = getD-set-other l j i a 0 (λ e. omega arith) ∙ same i (omega arith)
-
--- bytes whose front has been written anew
-pub counts-front : (n : ℕ) (front rest : List ℕ) → length front ≡ n → Counts n (front ++ rest)
-counts-front n front rest e = (omega (arith, length-append front rest), rw (take-at front rest n e) (sym e))

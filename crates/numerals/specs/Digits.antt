@@ -7,7 +7,7 @@ use lib.Dec.{ltb, eqb}
 use lib.ListN.{length, getD}
 use Rattle.units.specs.Limits.{taskLimit}
 use Rattle.lists.specs.Lists.{some}
-use Rattle.console.specs.declared.Number.{Number}
+use Rattle.numerals.specs.declared.Number.{Number}
 
 -- the text codes of 0 and 9
 abbrev pub zero-code : ℕ

@@ -1,11 +1,11 @@
--- `console::to_number` meets its contract. An empty text and one with another byte are no number. Assumes nothing.
+-- `numerals::to_number` meets its contract. An empty text and one with another byte are no number. Assumes nothing.
 use mathlib.Core.Path.{sym, _∙_}
 use native.Mathlib.Omega.{arith}
 use borrow.Author.Needs.{needs}
 use borrow.Author.Tests.{not-true, not-false}
-use Rattle.console.proofs.Texts.{none-such, number-is, number-none, empty-none, other-none}
-use Rattle.console.proofs.to_number.Statement.{statement}
-use Rattle.console.proofs.to_number.Tie as tie
+use Rattle.numerals.proofs.Texts.{none-such, number-is, number-none, empty-none, other-none}
+use Rattle.numerals.proofs.to_number.Statement.{statement}
+use Rattle.numerals.proofs.to_number.Tie as tie
 
 returns : tie.Need-returns
 returns c = number-none _ (empty-none _ (c .if1 .taken))

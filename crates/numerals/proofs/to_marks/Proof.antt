@@ -1,9 +1,9 @@
--- `console::to_marks` meets its contract. Where the test passes, the answer is that of the conversion; where it fails, nothing is written. Assumes nothing.
+-- `numerals::to_marks` meets its contract. Where the test passes, the answer is that of the conversion; where it fails, nothing is written. Assumes nothing.
 use mathlib.Core.Path.{sym, _∙_}
 use borrow.Author.Needs.{needs}
-use Rattle.console.proofs.Texts.{none-such, left-as-is}
-use Rattle.console.proofs.to_marks.Statement.{statement}
-use Rattle.console.proofs.to_marks.Tie as tie
+use Rattle.numerals.proofs.Texts.{none-such, left-as-is}
+use Rattle.numerals.proofs.to_marks.Statement.{statement}
+use Rattle.numerals.proofs.to_marks.Tie as tie
 
 is-digits-requires : tie.Need-is-digits-requires
 is-digits-requires c κs = search needs

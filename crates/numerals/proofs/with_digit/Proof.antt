@@ -1,10 +1,10 @@
--- `console::with_digit` meets its contract. The test is whether ten times the number and the digit pass 64 bits. Assumes nothing.
+-- `numerals::with_digit` meets its contract. The test is whether ten times the number and the digit pass 64 bits. Assumes nothing.
 use mathlib.Core.Path.{sym}
 use native.Mathlib.Omega.{arith}
 use borrow.Author.Needs.{needs}
-use Rattle.console.proofs.Texts.{within-word, past-word}
-use Rattle.console.proofs.with_digit.Statement.{statement}
-use Rattle.console.proofs.with_digit.Tie as tie
+use Rattle.numerals.proofs.Texts.{within-word, past-word}
+use Rattle.numerals.proofs.with_digit.Statement.{statement}
+use Rattle.numerals.proofs.with_digit.Tie as tie
 
 sub-if1 : tie.Need-sub-if1
 sub-if1 c = search needs

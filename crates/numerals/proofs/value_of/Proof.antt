@@ -1,23 +1,28 @@
--- `console::value_of` meets its contract. The loop's invariant: n is the number of the digits before j. The measure is what is left of the text. Assumes nothing.
-use Prim.Native.Nat.{_-_, _≤_}
+-- `numerals::value_of` meets its contract. The loop's invariant: n is the number of the digits before j. The measure is what is left of the text. Assumes nothing.
+use Prim.Native.Nat.{ℕ, _-_, _≤_}
 use mathlib.Core.Path.{_≡_, refl, _∙_}
+use mathlib.Core.List.{List}
 use native.Mathlib.Omega.{arith}
 use lib.ListN.{length}
 use Rattle.lists.proofs.Lists.{some-fails}
-use Rattle.console.specs.Digits.{numberTo, inWord}
-use Rattle.console.proofs.Texts.{digit-least, digit-most, number-more}
-use Rattle.console.proofs.value_of.Statement.{statement}
-use Rattle.console.proofs.value_of.Tie as tie
+use Rattle.numerals.specs.Digits.{numberTo, inWord}
+use Rattle.numerals.proofs.Texts.{digit-least, digit-most, number-more}
+use Rattle.numerals.proofs.value_of.Statement.{statement}
+use Rattle.numerals.proofs.value_of.Tie as tie
+
+record Valued (text : List ℕ) (n j : ℕ) : Type 0 where
+  pub within : j ≤ length text
+  pub value : n ≡ inWord (numberTo text j)
 
 abbrev Inv-loop : tie.InvT-loop
-Inv-loop text n₀ j₀ n j = (j ≤ length text) × (n ≡ inWord (numberTo text j))
+Inv-loop text n₀ j₀ n j = Valued text n j
 
 abbrev μ-loop : tie.MeasureT-loop
 μ-loop text n₀ j₀ n j = length text - j
 
 loop-holds : tie.Need-loop-holds Inv-loop μ-loop
 unfolding inWord numberTo
-loop-holds c = (omega arith, refl)
+loop-holds c = record { within = omega arith; value = refl }
 
 shared-slice-read-with-digit : tie.Need-shared-slice-read-with-digit Inv-loop μ-loop
 shared-slice-read-with-digit c = omega arith
@@ -43,12 +48,12 @@ loop-less c = omega arith
 loop-again : tie.Need-loop-again Inv-loop μ-loop
 loop-again c =
     let loop = c .before .before .before .loop in
-    (omega arith, c .with-digit .ensures ∙ number-more _ _ (loop .j) (loop .inv .1))
+    record { within = omega arith; value = c .with-digit .ensures ∙ number-more _ _ (loop .j) (loop .inv .value) }
 
 returns : tie.Need-returns Inv-loop μ-loop
 returns c =
     let e : c .before .loop .j ≡ length (c .before .before .before .args .text .now) = omega arith in
-    rw e at (c .before .loop .inv .1)
+    rw e at (c .before .loop .inv .value)
 
 pub value-of-spec : {M : Type 1} → statement M
 value-of-spec =
