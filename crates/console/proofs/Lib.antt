@@ -1,2 +1,2 @@
--- Laws of marks and of numbers as text.
-pub mod Texts
+-- Laws that the crate's own proofs cite.
+pub mod Counts

@@ -9,8 +9,8 @@ use Rattle.refusals.specs.declared.Answer.{Answer}
 use Rattle.costs.specs.declared.Powers.{Powers}
 use Rattle.planning.specs.Energy.{PlansByEnergy, SamePower}
 use Rattle.planning.proofs.ByEnergy.{wide-powers}
-use Rattle.console.specs.Digits.{wordMost, inWord}
-use Rattle.console.proofs.Texts.{within-word, past-word}
+use Rattle.numerals.specs.Digits.{wordMost, inWord}
+use Rattle.numerals.proofs.Texts.{within-word, past-word}
 
 same-power : (x : ℕ) → SamePower (inWord x) x
 same-power x = go (decLe x wordMost)

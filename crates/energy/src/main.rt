@@ -1,9 +1,9 @@
 // Takes two powers, one for computing and verifying, one for saving and recovering, reads a job sheet from standard input and prints its plan by energy: the
 // least energy, then one digit a task; or the number of its refusal.
 use costs::Powers;
+use header::SHEET_ROOM;
+use header::task_count;
 use planning::energy::plan_energy;
-use sheet::SHEET_ROOM;
-use sheet::layout::task_count;
 use units::TASK_LIMIT;
 
 // The plan of the sheet by energy.

@@ -17,7 +17,9 @@ use Rattle.growth.specs.Growth.{ceilDiv, term, termSum, growthSum, growth, G, H
 use Rattle.chain.specs.Time.{last, times, D}
 use Rattle.job.specs.Job.{total, between, isAllowed, stretchAllowed}
 use Rattle.job.specs.Checks.{badCount, badCost, badWeight, badValue, badTask}
-use Rattle.sheet.specs.Layout.{tasks, offset, size, kind, indexOf, section, badLength, badForm, badSections, badExtent, badExtents, inSection, covered, strayByte, oneOfEach, badKinds}
+use Rattle.header.specs.Header.{tasks, tasksMost, sections, offset, size, section, badLength, badForm, badTasks, badSections}
+use Rattle.kinds.specs.Kinds.{kind, lengthOf, indexIn, indexOf, counted, notOne, oneOfEach, wrongLength, badKinds}
+use Rattle.extents.specs.Extents.{endBefore, badExtent, badExtents, inSection, covered, strayByte}
 use Rattle.sheet.specs.Reading.{platformOf, weightsOf, jobOf}
 use Rattle.marks.specs.Pays.{table, paysOf}
 use Rattle.marks.specs.Marks.{badMarks, badStretch, badStretches, marksConditions}
@@ -66,7 +68,9 @@ unfolding up
     last times D
     total between isAllowed stretchAllowed
     badCount badCost badWeight badValue badTask
-    tasks offset size kind indexOf section badLength badForm badSections badExtent badExtents inSection covered strayByte oneOfEach badKinds
+    tasks tasksMost sections offset size section badLength badForm badTasks badSections
+    endBefore badExtent badExtents inSection covered strayByte
+    kind lengthOf indexIn indexOf counted notOne oneOfEach wrongLength badKinds
     platformOf weightsOf jobOf
     table paysOf
     badMarks badStretch badStretches
@@ -95,7 +99,7 @@ unfolding up
     ceilDiv term termSum growthSum growth G H
     last times D
     total between isAllowed stretchAllowed
-    tasks offset size kind indexOf section
+    tasks sections offset size section kind indexIn indexOf
     platformOf weightsOf jobOf
     badMarks badStretch badStretches
     vAt cmAt cdAt rdAt rmAt

@@ -21,9 +21,12 @@ use Rattle.chain.specs.Working.Search.{Rising, least, reachTo, reach, toVerific
 use Rattle.job.specs.Job.{total, between, isAllowed, stretchAllowed}
 use Rattle.job.specs.Checks.{badCount, badCost, badWeight, badValue, badTask}
 use Rattle.job.specs.declared.Job.{Job}
-use Rattle.sheet.specs.Layout.{tasks, offset, size, kind, indexOf, section, badLength, badForm, badSections, badExtent, badExtents, inSection, covered, strayByte, oneOfEach, badKinds}
+use Rattle.header.specs.Header.{tasks, tasksMost, sections, offset, size, section, badLength, badForm, badTasks, badSections}
+use Rattle.kinds.specs.Kinds.{kind, lengthOf, indexIn, indexOf, counted, notOne, oneOfEach, wrongLength, badKinds}
+use Rattle.extents.specs.Extents.{endBefore, badExtent, badExtents, inSection, covered, strayByte}
 use Rattle.sheet.specs.Reading.{platformOf, weightsOf, jobOf, sheetRefusal}
-use Rattle.writing.specs.Form.{fieldBytes, fields, formOne}
+use Rattle.fields.specs.Written.{fieldBytes, fields}
+use Rattle.writing.specs.Form.{pairs, lengths, together, formOf, formOne}
 use Rattle.marks.specs.Marks.{badMarks, badStretch, badStretches}
 use Rattle.costs.specs.Costs.{vAt, cmAt, cdAt, rdAt, rmAt}
 use Rattle.costs.specs.Stretch.{S, chainOf, timeOf}
@@ -152,9 +155,11 @@ unfolding up
     least reachTo reach toVerification leastQ toMemory leastM toDisk leastD
     total between isAllowed stretchAllowed
     badCount badCost badWeight badValue badTask
-    tasks offset size kind indexOf section badLength badForm badSections badExtent badExtents inSection covered strayByte oneOfEach badKinds
+    tasks tasksMost sections offset size section badLength badForm badTasks badSections
+    endBefore badExtent badExtents inSection covered strayByte
+    kind lengthOf indexIn indexOf counted notOne oneOfEach wrongLength badKinds
     platformOf weightsOf jobOf sheetRefusal
-    fieldBytes fields formOne
+    fieldBytes fields pairs lengths together formOf formOne
     badMarks badStretch badStretches
     vAt cmAt cdAt rdAt rmAt
     S chainOf timeOf

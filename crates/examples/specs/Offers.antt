@@ -7,9 +7,8 @@ use Rattle.refusals.specs.declared.Answer.{Answer}
 use Rattle.job.specs.Job.{total}
 use Rattle.job.specs.declared.Platform.{Platform}
 use Rattle.job.specs.declared.Job.{Job}
-use Rattle.sheet.specs.Layout.{form, sections, leastOffset, platformLength, weightsLength}
 use Rattle.sheet.specs.Reading.{sheetRefusal}
-use Rattle.writing.specs.Form.{fields, platformSection, weightsSection, formOne}
+use Rattle.writing.specs.Form.{platformSection, weightsSection, formOf, formOne}
 use Rattle.costs.specs.Dearer.{Cost, DiskCopy, MemoryCopy, Verification, DiskRecovery, MemoryRecovery, costOf}
 use Rattle.costs.specs.declared.Powers.{Powers}
 use Rattle.planning.specs.Promise.{Plans}
@@ -37,10 +36,7 @@ BothByEnergy powers s s' n n' answer answer' =
 
 -- form 1 with the weights before the platform
 unfoldable pub weightsBefore : Platform → (weights : List ℕ) → List ℕ
-weightsBefore p weights =
-    let size : ℕ = weightsLength (length weights) in
-    form ∷ length weights ∷ sections ∷ 0 ∷ fields (leastOffset ∷ size ∷ (leastOffset + size) ∷ platformLength ∷ [])
-    ++ (weightsSection weights ++ platformSection p)
+weightsBefore p weights = formOf (length weights) (weightsSection weights ∷ platformSection p ∷ [])
 
 -- A's rates with these costs, and A's weights
 unfoldable pub costsA : (cd cm v rd rm : ℕ) → Platform

@@ -1,7 +1,7 @@
 // Follows a run: the marks as digits in the first argument, the name of a log file in the second, the job sheet on standard input.
 // Prints where the run stands and what it has counted, or the number of its refusal.
 use console::ARGUMENT_ROOM;
-use sheet::SHEET_ROOM;
+use header::SHEET_ROOM;
 use state::Run;
 
 // 13,107 records of 5 bytes.

@@ -18,7 +18,7 @@ use Rattle.job.specs.Checks.{jobConditions}
 use Rattle.job.specs.declared.Job.{Job}
 use Rattle.job.proofs.Weights.{total-more}
 use Rattle.sheet.specs.Reading.{jobOf}
-use Rattle.sheet.proofs.Sections.{layout-passed}
+use Rattle.layout.proofs.Sections.{layout-count}
 use Rattle.sheet.proofs.Readings.{sheet-layout, sheet-goes-on}
 use Rattle.rules.specs.Rules.{totalLimit, totalOf, marksIn, marksRead, brokenValues, badAwaiting, overTotal, brokenPlace, broken}
 use Rattle.state.specs.State.{fresh}
@@ -120,7 +120,7 @@ module _ (sheet marks : List ℕ) (e : startOf sheet marks .number ≡ 0) where
       rw (
         begun .job,
         cleared-taken (jobOf sheet .tasks) marks (begun .long) (begun .few),
-        ← (refused-later Numbers.badCount _ refl (layout-passed sheet layout .count) (sym clear)),
+        ← (refused-later Numbers.badCount _ refl (layout-count sheet layout) (sym clear)),
       )
 
   start-place : PlacePassed (fresh (jobOf sheet) marks .job) (marksIn (fresh (jobOf sheet) marks)) (fresh (jobOf sheet) marks .place)

@@ -10,7 +10,8 @@ use Rattle.lists.proofs.Lists.{tabulate-same, getD-tabulate}
 use Rattle.units.specs.Limits.{taskLimit}
 use Rattle.refusals.specs.Refusals.{first, has, distinct, Numbered}
 use Rattle.refusals.proofs.Refusals.{first-clear, first-none}
-use Rattle.sheet.specs.Layout.{tasks, weightsKind, indexOf, section}
+use Rattle.header.specs.Header.{tasks, section}
+use Rattle.kinds.specs.Kinds.{weightsKind, indexOf}
 use Rattle.sheet.specs.Reading.{sectionField, weightsOf, sheetConditions, sheetRefusal, jobOf}
 use Rattle.sheet.proofs.Readings.{sheet-sound}
 use Rattle.marks.specs.Marks.{marksConditions}

@@ -3,10 +3,10 @@
 ghost use mathlib.Core.Path.{_≡_};
 ghost use Rattle.io.specs.Counts.{Counts};
 use console::Taken;
+use header::LONGEST_SHEET;
+use header::SHEET_ROOM;
 use libc::STDERR_FILENO;
 use libc::STDOUT_FILENO;
-use sheet::LONGEST_SHEET;
-use sheet::SHEET_ROOM;
 
 // What is wrong, and with which sheet.
 fn complain(words: &[u8], which: &[u8]) {

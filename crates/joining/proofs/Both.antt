@@ -5,14 +5,13 @@ use mathlib.Core.Bool.{Bool, true, false, not}
 use mathlib.Core.List.{[], _∷_}
 use borrow.Author.Tests.{lt-ltb, le-ltb, ltb-false, not-false}
 use lib.ListN.{length}
-use Rattle.units.specs.Limits.{costLimit}
 use Rattle.refusals.specs.Numbers
 use Rattle.refusals.specs.Refusals.{refusal, first, has, distinct}
 use Rattle.refusals.proofs.Refusals.{first-clear, refused-here, refused-later, refused-none}
-use Rattle.units.specs.Limits.{taskLimit}
+use Rattle.units.specs.Limits.{costLimit, taskLimit}
 use Rattle.job.specs.Job.{total}
 use Rattle.job.specs.declared.Job.{Job}
-use Rattle.sheet.specs.Layout.{weightsLength}
+use Rattle.kinds.specs.Kinds.{weightsLength}
 use Rattle.writing.specs.Form.{weightsStart}
 use Rattle.joining.specs.Join.{samePlatform, tooMany, tooHeavy, tooShort, joinedSheet, bothConditions}
 use Rattle.joining.specs.Working.Ready.{Both}

@@ -6,10 +6,10 @@ use native.Mathlib.Omega.{arith}
 use lib.ListN.{length, take, drop}
 use Rattle.lists.proofs.Lists.{length-tabulate}
 use Rattle.units.specs.Limits.{taskLimit}
-use Rattle.sheet.specs.Layout.{weightsKind, weightsLength}
+use Rattle.kinds.specs.Kinds.{weightsKind, weightsLength}
 use Rattle.sheet.specs.Reading.{weightsOf, jobOf, sheetOf, sheetRefusal}
 use Rattle.sheet.specs.declared.Sheet.{Sheet}
-use Rattle.sheet.proofs.Sections.{layout-tasks, layout-weights, section-ends}
+use Rattle.layout.proofs.Sections.{layout-tasks, layout-weights, section-ends}
 use Rattle.sheet.proofs.Readings.{sheet-layout, sheet-job, sheet-sound}
 use Rattle.joining.specs.Working.Ready.{Both, WasRead}
 

@@ -3,27 +3,27 @@ use Prim.Native.Nat.{ℕ, zero, suc, _+_, _-_, _≤_, _<_}
 use mathlib.Core.Path.{_≡_, refl, _∙_}
 use mathlib.Core.Bool.{true, false, not, _||_}
 use mathlib.Core.List.{List}
+use mathlib.Core.Logic.{_≢_}
 use native.Mathlib.Decide.{decLt}
 use native.Mathlib.Omega.{arith}
-use borrow.Author.Tests.{le-ltb, eqb-true}
-use lib.Dec.{ltb, eqb}
-use lib.ListN.{length, length-append, List·getD-append}
+use borrow.Author.Tests.{le-ltb, eqb-true, ne-eqb, not-true, not-false}
+use lib.Dec.{lit<, ltb, eqb}
+use lib.ListN.{length, getD, length-append, List·getD-append}
 use lib.Seq.{length-take-le, getD-take, getD-append-add}
-use Rattle.units.specs.Limits.{costLimit}
 use Rattle.lists.specs.Lists.{some}
-use Rattle.lists.proofs.Lists.{and-holds, some-fails, some-none, getD-tabulate}
+use Rattle.lists.proofs.Lists.{some-holds, some-fails, some-none, getD-tabulate}
 use Rattle.refusals.specs.Refusals.{first}
-use Rattle.units.specs.Limits.{taskLimit}
+use Rattle.units.specs.Limits.{costLimit, taskLimit}
 use Rattle.job.specs.Job.{weightAt, total, isAllowed}
 use Rattle.job.specs.Checks.{badWeight, badValue, badTask, jobConditions}
 use Rattle.job.specs.declared.Platform.{Platform}
 use Rattle.job.specs.declared.Job.{Job}
 use Rattle.job.proofs.Ranges.{ValuesPassed, value-passes, costs-right, weight-right}
 use Rattle.job.proofs.Weights.{total-more}
-use Rattle.sheet.specs.Layout.{weightsLength}
-use Rattle.writing.specs.Form.{weightsStart}
+use Rattle.kinds.specs.Kinds.{weightsLength}
+use Rattle.writing.specs.Form.{weightsStart, platformFields}
 use Rattle.writing.proofs.Forms.{formJob, form-length}
-use Rattle.joining.specs.Join.{taskWeights, joinedWeights, joinedSheet, samePlatform}
+use Rattle.joining.specs.Join.{taskWeights, joinedWeights, joinedSheet, differs, samePlatform}
 use Rattle.joining.specs.Working.Ready.{Both}
 
 -- totals of weights that are the same
@@ -41,15 +41,15 @@ platform-made h i j k l m n = rw (h, i, j, k, l, m, n) refl
 -- seven fields that do not differ are one platform
 pub same-platform : (p q : Platform) → samePlatform p q ≡ true → p ≡ q
 unfolding samePlatform
-same-platform p q e =
-    let failstop = and-holds (eqb (p .failstop) (q .failstop)) _ e in
-    let silent = and-holds (eqb (p .silent) (q .silent)) _ (failstop .1) in
-    let cd = and-holds (eqb (p .cd) (q .cd)) _ (silent .1) in
-    let cm = and-holds (eqb (p .cm) (q .cm)) _ (cd .1) in
-    let v = and-holds (eqb (p .v) (q .v)) _ (cm .1) in
-    let rd = and-holds (eqb (p .rd) (q .rd)) _ (v .1) in
-    platform-made (eqb-true _ _ (failstop .0)) (eqb-true _ _ (silent .0)) (eqb-true _ _ (cd .0)) (eqb-true _ _ (cm .0)) (eqb-true _ _ (v .0))
-    (eqb-true _ _ (rd .0)) (eqb-true _ _ (rd .1))
+same-platform p q e = platform-made (at 0 (lit< tt)) (at 1 (lit< tt)) (at 2 (lit< tt)) (at 3 (lit< tt)) (at 4 (lit< tt)) (at 5 (lit< tt)) (at 6 (lit< tt))
+  where
+    at : (i : ℕ) → i < 7 → getD (platformFields p) i 0 ≡ getD (platformFields q) i 0
+    at i h = eqb-true _ _ (not-false (eqb (getD (platformFields p) i 0) (getD (platformFields q) i 0)) (some-fails 7 (differs p q) (not-true _ e) i h))
+
+-- one field that differs is enough
+pub other-platform : (p q : Platform) (i : ℕ) → i < 7 → getD (platformFields p) i 0 ≢ getD (platformFields q) i 0 → false ≡ samePlatform p q
+unfolding samePlatform
+other-platform p q i h differ = rw (some-holds 7 (differs p q) i h (rw (ne-eqb _ _ differ) refl)) refl
 
 -- two jobs whose weights are there
 module _ (a b : Job) (held-a : a .tasks ≤ length (a .weights)) (held-b : b .tasks ≤ length (b .weights)) where

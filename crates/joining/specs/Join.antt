@@ -1,21 +1,22 @@
 -- Request 101: what joining two sheets gives, for every two lists of bytes and every lent buffer.
 use Prim.Native.Nat.{ℕ, _+_}
 use mathlib.Core.Path.{_≡_}
-use mathlib.Core.Bool.{Bool, false, cond, not, _&&_}
+use mathlib.Core.Bool.{Bool, false, cond, not}
 use mathlib.Core.List.{List, [], _∷_, _++_}
 use lib.Dec.{ltb, eqb}
-use lib.ListN.{length, take}
-use Rattle.units.specs.Limits.{costLimit}
-use Rattle.lists.specs.Lists.{tabulate}
+use lib.ListN.{length, getD, take}
+use Rattle.lists.specs.Lists.{some, tabulate}
 use Rattle.refusals.specs.Numbers
 use Rattle.refusals.specs.Refusals.{Condition, refusal, first}
-use Rattle.units.specs.Limits.{taskLimit}
+use Rattle.units.specs.Limits.{costLimit, taskLimit}
 use Rattle.job.specs.Job.{weightAt, total}
 use Rattle.job.specs.declared.Platform.{Platform}
 use Rattle.job.specs.declared.Job.{Job}
-use Rattle.sheet.specs.Layout.{platformKind, weightsKind, weightsLength, offset, indexOf, strayByte}
+use Rattle.kinds.specs.Kinds.{platformKind, weightsKind, weightsLength, indexOf}
+use Rattle.header.specs.Header.{offset}
+use Rattle.extents.specs.Extents.{strayByte}
 use Rattle.sheet.specs.Reading.{jobOf, sheetConditions, sheetRefusal, readingOf}
-use Rattle.writing.specs.Form.{platformStart, weightsStart, formOne, written}
+use Rattle.writing.specs.Form.{platformStart, weightsStart, platformFields, formOne, written}
 use Rattle.joining.specs.declared.Joined.{Joined}
 
 -- the weights of a sheet's tasks, in order
@@ -39,13 +40,13 @@ joinedJob a b =
       weights = tabulate taskLimit (weightAt (joinedWeights a b));
     }
 
+-- field i of the two differs
+abbrev pub differs : Platform → Platform → ℕ → Bool
+differs p q i = not (eqb (getD (platformFields p) i 0) (getD (platformFields q) i 0))
+
 -- the seven platform fields do not differ
 unfoldable pub samePlatform : Platform → Platform → Bool
-samePlatform p q =
-    eqb (p .failstop) (q .failstop)
-    && (eqb (p .silent) (q .silent)
-    && (eqb (p .cd) (q .cd)
-    && (eqb (p .cm) (q .cm) && (eqb (p .v) (q .v) && (eqb (p .rd) (q .rd) && eqb (p .rm) (q .rm))))))
+samePlatform p q = not (some (length (platformFields p)) (differs p q))
 
 -- 3, of both sheets together: more than 64 tasks
 unfoldable pub tooMany : Job → Job → Bool

@@ -10,6 +10,8 @@ use job::Job;
 use job::Platform;
 use job::checks::TOTAL_LIMIT;
 use job::totals::weight_to;
+use kinds::WEIGHTS_KIND;
+use kinds::length_of;
 use refusals::ACCEPTED;
 use refusals::BAD_COUNT;
 use refusals::BAD_VALUE;
@@ -20,9 +22,10 @@ use sheet::Sheet;
 use sheet::read::read;
 use sheet::read::weights_of;
 use units::TASK_LIMIT;
+use writing::PLATFORM_FIELDS;
+use writing::fields_of;
 use writing::put_sheet;
 use writing::sheet_length;
-use writing::weights_length;
 
 // The answer of a join: 0 and how many bytes of the buffer are the sheet, or the number of its refusal and 0.
 #[repr(C)]
@@ -41,25 +44,16 @@ fn refused(number: u64) -> Joined
 fn is_same(p: Platform, q: Platform) -> bool
     ensures { λ r. ⌜ r ≡ samePlatform p q ⌝ }
 {
-    if p.failstop != q.failstop {
-        return false;
+    let a = fields_of(p);
+    let b = fields_of(q);
+    let mut i: usize = 0;
+    while i < PLATFORM_FIELDS {
+        if a[i] != b[i] {
+            return false;
+        }
+        i += 1;
     }
-    if p.silent != q.silent {
-        return false;
-    }
-    if p.cd != q.cd {
-        return false;
-    }
-    if p.cm != q.cm {
-        return false;
-    }
-    if p.v != q.v {
-        return false;
-    }
-    if p.rd != q.rd {
-        return false;
-    }
-    p.rm == q.rm
+    true
 }
 
 // The first of 26, 3, 7 and 11 that holds of both together, or 0. The total is taken in 64 bits, which no weights can wrap.
@@ -115,7 +109,7 @@ fn with_weights(s: &[u8], values: Sheet) -> Job
 {
     let start = values.weights;
     let n = values.tasks;
-    let end = start + weights_length(n);
+    let end = start + length_of(WEIGHTS_KIND, n);
     let weights = weights_of(&s[start..end], n);
     let platform = values.platform;
     Job {

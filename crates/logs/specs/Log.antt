@@ -5,7 +5,7 @@ use mathlib.Core.List.{List}
 use lib.Dec.{ltb, eqb}
 use lib.ListN.{length, take, drop}
 use Rattle.refusals.specs.Numbers
-use Rattle.sheet.specs.Bytes.{byteAt, fieldAt}
+use Rattle.fields.specs.Bytes.{byteAt, fieldAt}
 use Rattle.rules.specs.Rules.{broken}
 use Rattle.following.specs.Run.{stepOf, accepted, refused}
 use Rattle.state.specs.declared.Run.{Run}

@@ -3,6 +3,8 @@ ghost use mathlib.Core.Path.{_≡_};
 ghost use Prim.Native.Nat.{_<_};
 ghost use Rattle.logs.specs.Log.{recordCount, recordAt, badRecord, eventOf, emptyLog, orBefore, applied, logOf};
 use events::Event;
+use fields::byte;
+use fields::field;
 use following::Stepped;
 use following::accepted;
 use following::refused;
@@ -10,8 +12,6 @@ use following::step;
 use refusals::BAD_RECORD;
 use refusals::BROKEN;
 use rules::broken;
-use sheet::bytes::byte;
-use sheet::bytes::field;
 use state::Run;
 
 const RECORD_LENGTH: usize = 5;

@@ -1,6 +1,6 @@
 // Reads a job sheet from standard input and prints its plan: the least time, then one digit a task; or the number of its refusal.
-use sheet::SHEET_ROOM;
-use sheet::layout::task_count;
+use header::SHEET_ROOM;
+use header::task_count;
 use units::TASK_LIMIT;
 
 // The plan of the sheet.

@@ -23,10 +23,10 @@ use Rattle.chain.proofs.Agree.{D-agree, allowed-agree}
 use Rattle.chain.proofs.Same.{same-allowed}
 use Rattle.units.specs.Limits.{taskLimit}
 use Rattle.job.specs.declared.Job.{Job}
-use Rattle.sheet.specs.Layout.{tasks}
+use Rattle.header.specs.Header.{tasks}
 use Rattle.sheet.specs.Reading.{jobOf, sheetConditions, sheetRefusal}
 use Rattle.sheet.proofs.Readings.{sheet-layout, sheet-sound}
-use Rattle.sheet.proofs.Sections.{layout-tasks}
+use Rattle.layout.proofs.Sections.{layout-tasks}
 use Rattle.marks.specs.Marks.{marksOf, marksConditions}
 use Rattle.marks.proofs.Stretches.{mark-at}
 use Rattle.costs.specs.Stretch.{chainOf}

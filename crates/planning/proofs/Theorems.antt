@@ -8,10 +8,10 @@ use lib.ListN.{length, take}
 use Rattle.refusals.specs.Answers.{accepted}
 use Rattle.refusals.specs.declared.Answer.{Answer}
 use Rattle.refusals.proofs.Answers.{answered-accepted, answer-same}
-use Rattle.sheet.specs.Layout.{tasks}
+use Rattle.header.specs.Header.{tasks}
 use Rattle.sheet.specs.Reading.{jobOf, sheetRefusal}
 use Rattle.sheet.proofs.Readings.{sheet-layout, sheet-sound}
-use Rattle.sheet.proofs.Sections.{layout-tasks}
+use Rattle.layout.proofs.Sections.{layout-tasks}
 use Rattle.units.specs.Limits.{taskLimit}
 use Rattle.costs.specs.Stretch.{chainOf, timeOf}
 use Rattle.costs.proofs.Settings.{setting-checks}

@@ -1,6 +1,6 @@
 // Prints the time of the marks, given as digits in the first argument, under the job sheet on standard input; or the number of their refusal.
 use console::ARGUMENT_ROOM;
-use sheet::SHEET_ROOM;
+use header::SHEET_ROOM;
 
 // The price of the marks.
 fn show(sheet: &[u8], marks: &[u8]) {

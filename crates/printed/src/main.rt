@@ -1,7 +1,7 @@
 // Reads a job sheet of up to 8 tasks from standard input and prints its plan by the equations as printed: the least time, then one digit a task; or the number
 // of its refusal.
-use sheet::SHEET_ROOM;
-use sheet::layout::task_count;
+use header::SHEET_ROOM;
+use header::task_count;
 use units::TASK_LIMIT;
 
 // The plan of the sheet.

@@ -10,14 +10,15 @@ use Rattle.refusals.specs.Numbers
 use Rattle.refusals.specs.Refusals.{Condition, first}
 use Rattle.refusals.specs.Answers.{answered}
 use Rattle.refusals.proofs.Refusals.{first-goes-on}
-use Rattle.sheet.specs.Layout.{layoutConditions}
+use Rattle.layout.specs.Layout.{layoutConditions}
 use Rattle.sheet.specs.Lookup.{lookupRefusal, foundOf}
 use Rattle.sheet.specs.Reading.{sheetConditions, sheetRefusal, readingOf, Says, Reads}
-use Rattle.sheet.specs.Whole.{HasStray, conditionsTo5}
+use Rattle.extents.specs.Stray.{HasStray}
+use Rattle.layout.specs.Whole.{conditionsTo5}
 use Rattle.sheet.specs.declared.Reading.{Reading}
 use Rattle.sheet.specs.declared.Reading.the-variants.{Accepted, Refused}
 use Rattle.sheet.proofs.Readings.{sheet-numbered}
-use Rattle.sheet.proofs.Before.{before-and-now}
+use Rattle.layout.proofs.Before.{before-and-now}
 use Rattle.joining.specs.Join.{joinRefusal, Joins, JoinRefused}
 use Rattle.joining.specs.declared.Joined.{Joined}
 use Rattle.joining.proofs.Theorems.{join-refuses}

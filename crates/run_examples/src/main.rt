@@ -1,7 +1,7 @@
 // Runs the examples of document 01 that are not starred, and prints what each gives; the starred ones are proved (`starred-examples`, in the crate `examples`).
 ghost use Rattle.io.specs.Counts.{Counts};
+use header::SHEET_ROOM;
 use libc::STDOUT_FILENO;
-use sheet::SHEET_ROOM;
 use units::TASK_LIMIT;
 
 // More than the log of the example has.

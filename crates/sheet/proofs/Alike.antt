@@ -1,85 +1,32 @@
--- An accepted sheet of bytes is determined by its values and by which kind comes first. A field says its four bytes; the sections of an accepted sheet are a
--- kind byte and the fields of its values; and the header is four bytes that checks 2 to 4 and the task count fix, and the places that follow from the two
--- lengths. Assumes nothing.
-use Prim.Native.Nat.{ℕ, zero, suc, _+_, _-_, _*_, _^_, _/_, _%_, _≤_, _<_}
+-- An accepted sheet of bytes is determined by its values and by the order of its kinds. A field says its four bytes; the sections of an accepted sheet are a kind
+-- byte and the fields of its values; and the header says no more than the task count and the lengths of the kinds (`header-same`). Assumes nothing.
+use Prim.Native.Nat.{ℕ, zero, suc, _+_, _*_, _^_, _≤_, _<_}
 use mathlib.Core.Path.{_≡_, refl, sym, _∙_, ap}
-use mathlib.Core.Bool.{Bool, true, false, not, _||_, _&&_}
 use mathlib.Core.List.{List}
 use mathlib.Core.Logic.{_⊎_, inl, inr}
-use native.Mathlib.Decide.{ℕ-discrete, decLt}
 use native.Mathlib.Omega.{arith}
-use borrow.Author.Tests.{eqb-true, not-false, lt-ltb}
-use lib.Dec.{lit<, lit≤, eqb}
-use lib.ListN.{length, getD, take, drop, set, length-set, length-take, length-drop, List·getD-eq-default}
-use lib.Seq.{ext-getD, length-take-le, getD-take, getD-drop, getD-set-same, getD-set-other}
-use Rattle.lists.proofs.Lists.{or-fails, and-holds, getD-tabulate}
+use borrow.Author.Tests.{lt-ltb}
+use lib.ListN.{getD, set}
+use Rattle.lists.proofs.Lists.{getD-tabulate}
 use Rattle.refusals.specs.Numbers
 use Rattle.refusals.specs.Refusals.{first}
 use Rattle.units.specs.Limits.{taskLimit}
 use Rattle.job.specs.declared.Platform.{Platform}
 use Rattle.job.specs.declared.Job.{Job}
-use Rattle.sheet.specs.Bytes.{byteAt, fieldAt, fieldLength}
-use Rattle.sheet.specs.Layout.{
-  form,
-  sections,
-  platformKind,
-  weightsKind,
-  platformLength,
-  weightsLength,
-  leastOffset,
-  tasks,
-  offset,
-  size,
-  kind,
-  indexOf,
-  section,
-  oneOfEach,
-  badForm,
-  badSections,
-  badKinds,
-  layoutConditions,
-}
+use Rattle.fields.specs.Bytes.{byteAt, fieldLength, AreBytes}
+use Rattle.fields.proofs.Bytes.{piece-bytes, fields-same, bytes-set}
+use Rattle.header.specs.Header.{tasks, sections, offset, size, section}
+use Rattle.header.proofs.Header.{two-sections}
+use Rattle.kinds.specs.Kinds.{kind, platformKind, weightsKind, indexOf}
+use Rattle.kinds.proofs.Indices.{kind-index}
+use Rattle.kinds.proofs.Lengths.{platform-long, weights-long, one-of-each}
+use Rattle.layout.specs.Layout.{layoutConditions}
+use Rattle.layout.proofs.Sections.{layout-passed, layout-tasks}
+use Rattle.layout.proofs.Whole.{same-parts}
+use Rattle.layout.proofs.Alike.{kind-length, kind-known, length-section, first-byte, same-sections, same-order, header-same, kinds-stay}
 use Rattle.sheet.specs.Reading.{sectionField, platformOf, weightsOf, jobOf, sheetRefusal, readingOf}
 use Rattle.sheet.specs.declared.JobReading.{JobReading}
-use Rattle.sheet.specs.Whole.{AreBytes, header}
-use Rattle.sheet.proofs.Sections.{extents-placed, layout-passed, layout-tasks, layout-weights, section-within}
 use Rattle.sheet.proofs.Readings.{sheet-layout, reading-number, reading-job}
-use Rattle.sheet.proofs.Before.{field-agrees, offset-kept}
-use Rattle.sheet.proofs.Whole.{EndToEnd, end-to-end, same-parts}
-
--- a piece of a list of bytes is one
-piece-bytes : (s : List ℕ) → AreBytes s → (n a : ℕ) → AreBytes (take n (drop a s))
-piece-bytes s bytes n a i = go (decLt i n)
-  where
-    go : Dec (i < n) → byteAt (take n (drop a s)) i < 2 ^ 8
-    go (yes h) = rw (getD-take n (drop a s) i 0 h, getD-drop a s i 0) (bytes (a + i))
-    go (no h) = rw (List·getD-eq-default (take n (drop a s)) 0 {n = i} (omega (arith, length-take n (drop a s)))) (lit< tt)
-
-module _ (p q : List ℕ) (bytes-p : AreBytes p) (bytes-q : AreBytes q) where
-  below : (i : ℕ) → (byteAt p i < 2 ^ 8) × (byteAt q i < 2 ^ 8)
-  below i = (bytes-p i, bytes-q i)
-
-  -- the same field has the same bytes
-  field-bytes : (a : ℕ) → fieldAt p a ≡ fieldAt q a → (j : ℕ) → j < fieldLength → byteAt p (a + j) ≡ byteAt q (a + j)
-  field-bytes a e zero h = let start : a + 0 ≡ a = omega arith in rw start (omega (arith, e, below a, below (a + 1), below (a + 2), below (a + 3)))
-  field-bytes a e (suc zero) h = omega (arith, e, below a, below (a + 1), below (a + 2), below (a + 3))
-  field-bytes a e (suc (suc zero)) h = omega (arith, e, below a, below (a + 1), below (a + 2), below (a + 3))
-  field-bytes a e (suc (suc (suc zero))) h = omega (arith, e, below a, below (a + 1), below (a + 2), below (a + 3))
-  field-bytes a e (suc (suc (suc (suc j)))) h = absurd (omega arith)
-
-  -- some bytes, then fields
-  fields-same : (lead n : ℕ) → length p ≡ lead + fieldLength * n → length q ≡ lead + fieldLength * n
-      → ((i : ℕ) → i < lead → byteAt p i ≡ byteAt q i)
-      → ((i : ℕ) → i < n → fieldAt p (lead + fieldLength * i) ≡ fieldAt q (lead + fieldLength * i)) → p ≡ q
-  fields-same lead n lp lq led fields = ext-getD 0 p q (lp ∙ sym lq) (λ i h. at i h (decLt i lead))
-    where
-      at : (i : ℕ) → i < length p → Dec (i < lead) → byteAt p i ≡ byteAt q i
-      at i h (yes l) = led i l
-      at i h (no l) =
-          let m : ℕ = (i - lead) / fieldLength in
-          let j : ℕ = (i - lead) % fieldLength in
-          let e : lead + fieldLength * m + j ≡ i = omega arith in
-          rw e at (field-bytes (lead + fieldLength * m) (fields m (omega arith)) j (omega arith))
 
 -- the seven fields of a platform
 platform-fields : (p q : List ℕ) → platformOf p ≡ platformOf q → (i : ℕ) → i < 7 → sectionField p i ≡ sectionField q i
@@ -101,222 +48,90 @@ weights-fields p q n few e i h = sym (at p) ∙ (ap (λ l. getD l i 0) e ∙ at 
     at : (l : List ℕ) → getD (weightsOf l n) i 0 ≡ sectionField l i
     at l = getD-tabulate taskLimit _ i (omega arith) ∙ rw (lt-ltb i n h) refl
 
--- one section of each kind, in one order or the other
-each-kind : (x y : ℕ) → oneOfEach x y ≡ true → ((x ≡ platformKind) × (y ≡ weightsKind)) ⊎ ((x ≡ weightsKind) × (y ≡ platformKind))
-unfolding oneOfEach
-each-kind x y e = go (eqb x platformKind && eqb y weightsKind) refl e
-  where
-    go : (b : Bool) → (eqb x platformKind && eqb y weightsKind) ≡ b → (b || (eqb x weightsKind && eqb y platformKind)) ≡ true
-        → ((x ≡ platformKind) × (y ≡ weightsKind)) ⊎ ((x ≡ weightsKind) × (y ≡ platformKind))
-    go true q z = let parts = and-holds (eqb x platformKind) _ q in inl (eqb-true _ _ (parts .0), eqb-true _ _ (parts .1))
-    go false q z = let parts = and-holds (eqb x weightsKind) _ z in inr (eqb-true _ _ (parts .0), eqb-true _ _ (parts .1))
+-- a section of a kind is the one of that kind's index
+module _ (s : List ℕ) (clear : first (layoutConditions s) ≡ 0) (i : ℕ) (h : i < sections s) where
+  index-is : (j : ℕ) → j < 2 → kind s i ≡ j + 1 → i ≡ indexOf s (j + 1)
+  index-is j few e = kind-index s (one-of-each s (layout-passed s clear .kinds)) j (omega (arith, two-sections s)) i h e
 
--- the places of an accepted sheet, the platform in section a and the weights in section b
-record Order (s : List ℕ) (a b : ℕ) : Type 0 where
-  pub platform-index : indexOf s platformKind ≡ a
-  pub weights-index : indexOf s weightsKind ≡ b
-  pub platform-kind : kind s a ≡ platformKind
-  pub weights-kind : kind s b ≡ weightsKind
-  pub platform-size : size s a ≡ platformLength
-  pub weights-size : size s b ≡ weightsLength (tasks s)
+  platform-size : kind s i ≡ platformKind → size s i ≡ 1 + fieldLength * 7
+  platform-size e = kind-length s clear i h ∙ (rw e (platform-long (tasks s)))
 
-module _ (s : List ℕ) (clear : first (layoutConditions s) ≡ 0) where
-  orders : Order s 0 1 ⊎ Order s 1 0
-  unfolding badKinds indexOf
-  orders =
-      let each = or-fails (not (oneOfEach (kind s 0) (kind s 1))) _ (layout-passed s clear .kinds) in
-      let platform = or-fails (not (eqb (size s (indexOf s platformKind)) platformLength)) _ (each .1) in
-      let size-is = eqb-true _ _ (not-false (eqb (size s (indexOf s platformKind)) platformLength) (platform .0)) in
-      go (each-kind (kind s 0) (kind s 1) (not-false _ (each .0))) size-is (layout-weights s clear)
-    where
-      go : ((kind s 0 ≡ platformKind) × (kind s 1 ≡ weightsKind)) ⊎ ((kind s 0 ≡ weightsKind) × (kind s 1 ≡ platformKind))
-          → size s (indexOf s platformKind) ≡ platformLength → size s (indexOf s weightsKind) ≡ weightsLength (tasks s) → Order s 0 1 ⊎ Order s 1 0
-      go (inl k) p w =
-          inl
-          (record {
-            platform-index = rw (k .0) refl;
-            weights-index = rw (k .0) refl;
-            platform-kind = k .0;
-            weights-kind = k .1;
-            platform-size = rw (k .0) at p;
-            weights-size = rw (k .0) at w;
-          })
-      go (inr k) p w =
-          inr
-          (record {
-            platform-index = rw (k .0) refl;
-            weights-index = rw (k .0) refl;
-            platform-kind = k .1;
-            weights-kind = k .0;
-            platform-size = rw (k .0) at p;
-            weights-size = rw (k .0) at w;
-          })
-
--- the header's bytes and fields are the sheet's
-module _ (s : List ℕ) where
-  header-byte : (i : ℕ) → i < leastOffset → byteAt (header s) i ≡ byteAt s i
-  header-byte i h = getD-take leastOffset s i 0 h
-
-  header-field : (a : ℕ) → a + fieldLength ≤ leastOffset → fieldAt (header s) a ≡ fieldAt s a
-  header-field a h = field-agrees (header s) s a (λ j l. header-byte j (omega arith))
-
-  module _ (clear : first (layoutConditions s) ≡ 0) where
-    length-header : length (header s) ≡ leastOffset
-    length-header = length-take-le leastOffset s (omega (arith, end-to-end s clear .start, end-to-end s clear .next, end-to-end s clear .end))
-
-    -- bytes that checks 2 and 4 fix
-    form-byte : byteAt s 0 ≡ form
-    unfolding badForm
-    form-byte = eqb-true _ _ (not-false (eqb (byteAt s 0) form) (or-fails _ _ (layout-passed s clear .form) .0))
-
-    zero-byte : byteAt s 3 ≡ 0
-    unfolding badForm
-    zero-byte = eqb-true _ _ (not-false (eqb (byteAt s 3) 0) (or-fails (not (eqb (byteAt s 0) form)) _ (layout-passed s clear .form) .1))
-
-    sections-byte : byteAt s 2 ≡ sections
-    unfolding badSections
-    sections-byte = eqb-true _ _ (not-false (eqb (byteAt s 2) sections) (layout-passed s clear .sections))
-
--- a section, kind byte first
-module _ (s : List ℕ) (clear : first (layoutConditions s) ≡ 0) (i : ℕ) (h : i < 2) where
-  length-section : length (section s i) ≡ size s i
-  unfolding section
-  length-section = length-take-le (size s i) (drop (offset s i) s) (omega (arith, length-drop (offset s i) s, section-within s clear i h))
-
-  first-byte : 0 < size s i → byteAt (section s i) 0 ≡ kind s i
-  unfolding section kind
-  first-byte p =
-      let start : offset s i + 0 ≡ offset s i = omega arith in
-      getD-take (size s i) (drop (offset s i) s) 0 0 p ∙ rw start at (getD-drop (offset s i) s 0 0)
+  weights-size : kind s i ≡ weightsKind → size s i ≡ 1 + fieldLength * tasks s
+  weights-size e = kind-length s clear i h ∙ (rw e (weights-long (tasks s)))
 
 module _ (s t : List ℕ) (bytes-s : AreBytes s) (bytes-t : AreBytes t) (clear-s : first (layoutConditions s) ≡ 0) (clear-t : first (layoutConditions t) ≡ 0) where
   -- two sections of one kind with the same n fields
-  section-same : (i n : ℕ) → i < 2 → size s i ≡ 1 + fieldLength * n → size t i ≡ 1 + fieldLength * n → kind s i ≡ kind t i
+  fields-alike : (i n : ℕ) → i < sections s → size s i ≡ 1 + fieldLength * n → size t i ≡ 1 + fieldLength * n → kind s i ≡ kind t i
       → ((j : ℕ) → j < n → sectionField (section s i) j ≡ sectionField (section t i) j) → section s i ≡ section t i
   unfolding section
-  section-same i n h size-s size-t kinds fields =
+  fields-alike i n h size-s size-t kinds fields =
       fields-same (section s i) (section t i) (piece-bytes s bytes-s (size s i) (offset s i)) (piece-bytes t bytes-t (size t i) (offset t i)) 1 n
-      (length-section s clear-s i h ∙ size-s) (length-section t clear-t i h ∙ size-t) lead fields
+      (length-section s clear-s i h ∙ size-s) (length-section t clear-t i h' ∙ size-t) lead fields
     where
+      h' : i < sections t
+      h' = rw (same-sections s t clear-s clear-t) at h
+
       lead : (j : ℕ) → j < 1 → byteAt (section s i) j ≡ byteAt (section t i) j
       lead j l =
           let z : j ≡ 0 = omega arith in
-          rw z (first-byte s clear-s i h (omega arith) ∙ (kinds ∙ sym (first-byte t clear-t i h (omega arith))))
+          rw z (first-byte s clear-s i h ∙ (kinds ∙ sym (first-byte t clear-t i h')))
 
   module _ (values : jobOf s ≡ jobOf t) where
     same-tasks : tasks s ≡ tasks t
     unfolding jobOf
     same-tasks = ap (λ (job : Job). job .tasks) values
 
-    module _ (a b : ℕ) (h-a : a < 2) (h-b : b < 2) (of-s : Order s a b) (of-t : Order t a b) where
-      platform-same : section s a ≡ section t a
+    module _ (kinds : (i : ℕ) → i < sections s → kind s i ≡ kind t i) where
+      -- each section by its kind
+      section-alike : (i : ℕ) → i < sections s → section s i ≡ section t i
       unfolding jobOf
-      platform-same =
-          let platforms = rw (of-s .platform-index, of-t .platform-index) at (ap (λ (job : Job). job .platform) values) in
-          section-same a 7 h-a (of-s .platform-size) (of-t .platform-size) (of-s .platform-kind ∙ sym (of-t .platform-kind))
-          (platform-fields (section s a) (section t a) platforms)
+      section-alike i h = go (kind-known s clear-s i h)
+        where
+          h' : i < sections t
+          h' = rw (same-sections s t clear-s clear-t) at h
 
-      weights-same : section s b ≡ section t b
-      unfolding jobOf
-      weights-same =
-          let weights = rw (of-s .weights-index, of-t .weights-index, ← same-tasks) at (ap (λ (job : Job). job .weights) values) in
-          section-same b (tasks s) h-b (of-s .weights-size) (of-t .weights-size ∙ rw same-tasks refl) (of-s .weights-kind ∙ sym (of-t .weights-kind))
-          (weights-fields (section s b) (section t b) (tasks s) (layout-tasks s clear-s .few-tasks) weights)
+          go : (kind s i ≡ platformKind) ⊎ (kind s i ≡ weightsKind) → section s i ≡ section t i
+          go (inl e) =
+              let e' = sym (kinds i h) ∙ e in
+              let platforms = rw (← (index-is s clear-s i h 0 (omega arith) e), ← (index-is t clear-t i h' 0 (omega arith) e')) at
+              (ap (λ (job : Job). job .platform) values) in
+              fields-alike i 7 h (platform-size s clear-s i h e) (platform-size t clear-t i h' e') (kinds i h)
+              (platform-fields (section s i) (section t i) platforms)
+          go (inr e) =
+              let e' = sym (kinds i h) ∙ e in
+              let weights = rw (← (index-is s clear-s i h 1 (omega arith) e), ← (index-is t clear-t i h' 1 (omega arith) e'), ← same-tasks) at
+              (ap (λ (job : Job). job .weights) values) in
+              fields-alike i (tasks s) h (weights-size s clear-s i h e) (weights-size t clear-t i h' e' ∙ rw same-tasks refl) (kinds i h)
+              (weights-fields (section s i) (section t i) (tasks s) (layout-tasks s clear-s .few-tasks) weights)
 
-    -- the header says no more than the task count and the two sizes
-    header-same : size s 0 ≡ size t 0 → size s 1 ≡ size t 1 → header s ≡ header t
-    unfolding offset size tasks
-    header-same first-size second-size =
-        fields-same (header s) (header t) (piece-bytes s bytes-s leastOffset 0) (piece-bytes t bytes-t leastOffset 0) 4 4
-        (length-header s clear-s) (length-header t clear-t) lead fields
-      where
-        one : EndToEnd s
-        one = end-to-end s clear-s
+      same-values : s ≡ t
+      same-values = same-parts s t clear-s clear-t (header-same s t clear-s clear-t same-tasks bytes-s bytes-t kinds) section-alike
 
-        other : EndToEnd t
-        other = end-to-end t clear-t
+-- two accepted sheets with the same reading have the same values
+module _ (s t : List ℕ) (accepted : readingOf s .number ≡ Numbers.accepted) (same : readingOf s ≡ readingOf t) where
+  accepted-first : sheetRefusal s ≡ 0
+  accepted-first = sym (reading-number s) ∙ accepted
 
-        lead : (i : ℕ) → i < 4 → byteAt (header s) i ≡ byteAt (header t) i
-        lead zero h = header-byte s 0 (lit< tt) ∙ (form-byte s clear-s ∙ sym (header-byte t 0 (lit< tt) ∙ form-byte t clear-t))
-        lead (suc zero) h = header-byte s 1 (lit< tt) ∙ (same-tasks ∙ sym (header-byte t 1 (lit< tt)))
-        lead (suc (suc zero)) h = header-byte s 2 (lit< tt) ∙ (sections-byte s clear-s ∙ sym (header-byte t 2 (lit< tt) ∙ sections-byte t clear-t))
-        lead (suc (suc (suc zero))) h = header-byte s 3 (lit< tt) ∙ (zero-byte s clear-s ∙ sym (header-byte t 3 (lit< tt) ∙ zero-byte t clear-t))
-        lead (suc (suc (suc (suc i)))) h = absurd (omega arith)
+  accepted-second : sheetRefusal t ≡ 0
+  accepted-second = sym (reading-number t) ∙ (sym (ap (λ (r : JobReading). r .number) same) ∙ accepted)
 
-        fields : (i : ℕ) → i < 4 → fieldAt (header s) (4 + fieldLength * i) ≡ fieldAt (header t) (4 + fieldLength * i)
-        fields zero h = header-field s 4 (lit≤ tt) ∙ (one .start ∙ sym (header-field t 4 (lit≤ tt) ∙ other .start))
-        fields (suc zero) h = header-field s 8 (lit≤ tt) ∙ (first-size ∙ sym (header-field t 8 (lit≤ tt)))
-        fields (suc (suc zero)) h =
-            let second : fieldAt s 12 ≡ fieldAt t 12 = omega (arith, one .next, other .next, one .start, other .start, first-size) in
-            header-field s 12 (lit≤ tt) ∙ (second ∙ sym (header-field t 12 (lit≤ tt)))
-        fields (suc (suc (suc zero))) h = header-field s 16 (lit≤ tt) ∙ (second-size ∙ sym (header-field t 16 (lit≤ tt)))
-        fields (suc (suc (suc (suc i)))) h = absurd (omega arith)
-
-    same-values : kind s 0 ≡ kind t 0 → s ≡ t
-    same-values first-kind = go (orders s clear-s) (orders t clear-t)
-      where
-        go : Order s 0 1 ⊎ Order s 1 0 → Order t 0 1 ⊎ Order t 1 0 → s ≡ t
-        go (inl p) (inl q) =
-            same-parts s t clear-s clear-t
-            (header-same (p .platform-size ∙ sym (q .platform-size)) (p .weights-size ∙ (ap weightsLength same-tasks ∙ sym (q .weights-size))))
-            (platform-same 0 1 (lit< tt) (lit< tt) p q) (weights-same 0 1 (lit< tt) (lit< tt) p q)
-        go (inr p) (inr q) =
-            same-parts s t clear-s clear-t
-            (header-same (p .weights-size ∙ (ap weightsLength same-tasks ∙ sym (q .weights-size))) (p .platform-size ∙ sym (q .platform-size)))
-            (weights-same 1 0 (lit< tt) (lit< tt) p q) (platform-same 1 0 (lit< tt) (lit< tt) p q)
-        go (inl p) (inr q) = absurd (omega (arith, p .platform-kind, q .weights-kind, first-kind))
-        go (inr p) (inl q) = absurd (omega (arith, p .weights-kind, q .platform-kind, first-kind))
+  read-alike : jobOf s ≡ jobOf t
+  read-alike = sym (reading-job s accepted-first) ∙ (ap (λ (r : JobReading). r .job) same ∙ reading-job t accepted-second)
 
 -- two accepted sheets of bytes that read alike, the same kind first, are the same: there is nothing else in which they could differ
 pub same-reading : (s t : List ℕ) → AreBytes s → AreBytes t → readingOf s .number ≡ Numbers.accepted → readingOf s ≡ readingOf t
     → kind s 0 ≡ kind t 0 → s ≡ t
 same-reading s t bytes-s bytes-t accepted same first-kind =
-    let clear-s : sheetRefusal s ≡ 0 = sym (reading-number s) ∙ accepted in
-    let clear-t : sheetRefusal t ≡ 0 = sym (reading-number t) ∙ (sym (ap (λ (r : JobReading). r .number) same) ∙ accepted) in
-    let values : jobOf s ≡ jobOf t = sym (reading-job s clear-s) ∙ (ap (λ (r : JobReading). r .job) same ∙ reading-job t clear-t) in
-    same-values s t bytes-s bytes-t (sheet-layout s clear-s) (sheet-layout t clear-t) values first-kind
-
--- the kind of one section tells that of the other
-other-kind : (s t : List ℕ) → first (layoutConditions s) ≡ 0 → first (layoutConditions t) ≡ 0 → kind s 1 ≡ kind t 1 → kind s 0 ≡ kind t 0
-other-kind s t clear-s clear-t second = go (orders s clear-s) (orders t clear-t)
-  where
-    go : Order s 0 1 ⊎ Order s 1 0 → Order t 0 1 ⊎ Order t 1 0 → kind s 0 ≡ kind t 0
-    go (inl p) (inl q) = p .platform-kind ∙ sym (q .platform-kind)
-    go (inr p) (inr q) = p .weights-kind ∙ sym (q .weights-kind)
-    go (inl p) (inr q) = absurd (omega (arith, p .weights-kind, q .platform-kind, second))
-    go (inr p) (inl q) = absurd (omega (arith, p .platform-kind, q .weights-kind, second))
-
--- one changed byte does not swap the sections
-module _ (s : List ℕ) (i b : ℕ) (clear : first (layoutConditions s) ≡ 0) (clear' : first (layoutConditions (set s i b)) ≡ 0) where
-  same-first : kind s 0 ≡ kind (set s i b) 0
-  unfolding kind
-  same-first = go (ℕ-discrete i leastOffset)
-    where
-      one : EndToEnd s
-      one = end-to-end s clear
-
-      go : Dec (i ≡ leastOffset) → kind s 0 ≡ kind (set s i b) 0
-      go (no h) =
-          rw (one .start, end-to-end (set s i b) clear' .start) (sym (getD-set-other s i leastOffset b 0 (λ e. h (sym e))))
-      go (yes h) =
-          other-kind s (set s i b) clear clear'
-          (rw (offset-kept s i b (omega arith) 1 (lit< tt))
-          (sym (getD-set-other s i (offset s 1) b 0 (λ e. omega (arith, one .start, one .next, extents-placed s (layout-passed s clear .extents) .first-placed .some-byte)))))
-
-bytes-set : (s : List ℕ) (i b : ℕ) → AreBytes s → b < 2 ^ 8 → AreBytes (set s i b)
-bytes-set s i b bytes h j = go (ℕ-discrete j i) (decLt i (length s))
-  where
-    go : Dec (j ≡ i) → Dec (i < length s) → byteAt (set s i b) j < 2 ^ 8
-    go (no q) l = rw (getD-set-other s i j b 0 q) (bytes j)
-    go (yes q) (yes l) = rw (q, getD-set-same s i b 0 l) h
-    go (yes q) (no l) = rw (List·getD-eq-default (set s i b) 0 {n = j} (omega (arith, length-set s i b))) (lit< tt)
+    let clear-s = sheet-layout s (accepted-first s t accepted same) in
+    let clear-t = sheet-layout t (accepted-second s t accepted same) in
+    same-values s t bytes-s bytes-t clear-s clear-t (read-alike s t accepted same) (same-order s t clear-s clear-t first-kind)
 
 -- no byte of an accepted sheet can change and leave its reading as it was
 pub one-byte : (s : List ℕ) (i b : ℕ) → AreBytes s → b < 2 ^ 8 → readingOf s .number ≡ Numbers.accepted → readingOf (set s i b) ≡ readingOf s
     → set s i b ≡ s
 one-byte s i b bytes h accepted same =
-    let clear : sheetRefusal s ≡ 0 = sym (reading-number s) ∙ accepted in
-    let clear' : sheetRefusal (set s i b) ≡ 0 = sym (reading-number (set s i b)) ∙ (ap (λ (r : JobReading). r .number) same ∙ accepted) in
-    sym
-    (same-reading s (set s i b) bytes (bytes-set s i b bytes h) accepted (sym same)
-    (same-first s i b (sheet-layout s clear) (sheet-layout (set s i b) clear')))
+    let clear = sheet-layout s (accepted-first s (set s i b) accepted (sym same)) in
+    let clear' = sheet-layout (set s i b) (accepted-second s (set s i b) accepted (sym same)) in
+    let values = read-alike s (set s i b) accepted (sym same) in
+    let kinds = kinds-stay s i b clear clear' (same-tasks s (set s i b) bytes (bytes-set s i b bytes h) clear clear' values) in
+    sym (same-values s (set s i b) bytes (bytes-set s i b bytes h) clear clear' values kinds)

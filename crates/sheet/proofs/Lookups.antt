@@ -1,7 +1,7 @@
 -- Lookup by kind: one law for each of its answers, and that the stretch lies within the sheet. Assumes nothing.
 use Prim.Native.Nat.{ℕ, _+_, _-_, _≤_, _<_}
 use mathlib.Core.Path.{_≡_, sym}
-use mathlib.Core.Bool.{Bool, true, cond, not, _||_}
+use mathlib.Core.Bool.{Bool, true, cond, not}
 use mathlib.Core.List.{List, [], _∷_}
 use native.Mathlib.Decide.{ℕ-discrete}
 use native.Mathlib.Omega.{arith}
@@ -11,9 +11,11 @@ use lib.ListN.{length, take, drop}
 use Rattle.refusals.specs.Numbers
 use Rattle.refusals.specs.Refusals.{refusal, first}
 use Rattle.refusals.proofs.Refusals.{first-stands, first-goes-on, first-none}
-use Rattle.sheet.specs.Layout.{platformKind, weightsKind, offset, size, indexOf, section, layoutConditions}
+use Rattle.kinds.specs.Kinds.{hasKind, indexOf}
+use Rattle.header.specs.Header.{offset, size, section}
+use Rattle.layout.specs.Layout.{layoutConditions}
 use Rattle.sheet.specs.Lookup.{lookupRefusal, foundOf}
-use Rattle.sheet.proofs.Sections.{layout-numbered, section-ends}
+use Rattle.layout.proofs.Sections.{layout-numbered, section-ends}
 
 -- a part from a start to an end is so many bytes from the start
 pub part-is : (l : List ℕ) (size : ℕ) {a e start : ℕ} → a ≡ start → e ≡ a + size → take (e - a) (drop a l) ≡ take size (drop start l)
@@ -24,13 +26,13 @@ module _ (s : List ℕ) (k : ℕ) where
   unfolding lookupRefusal
   lookup-refused p = sym (first-stands (layoutConditions s) _ p)
 
-  -- a right layout leaves only whether the kind is one of the two
-  pub lookup-of : first (layoutConditions s) ≡ 0 → (known : Bool) → (eqb k platformKind || eqb k weightsKind) ≡ known
+  -- a right layout leaves only whether the sheet has the kind
+  pub lookup-of : first (layoutConditions s) ≡ 0 → (known : Bool) → hasKind s k ≡ known
       → cond (not known) Numbers.badKinds 0 ≡ lookupRefusal s k
   unfolding lookupRefusal first
   lookup-of clear known e =
       rw (
-        first-goes-on (layoutConditions s) (refusal Numbers.badKinds (not (eqb k platformKind || eqb k weightsKind)) ∷ []) (layout-numbered s) clear,
+        first-goes-on (layoutConditions s) (refusal Numbers.badKinds (not (hasKind s k)) ∷ []) (layout-numbered s) clear,
         e,
       )
 
@@ -57,12 +59,12 @@ module _ (s : List ℕ) (k : ℕ) where
       go (no h) = rw (ne-eqb _ _ h) (omega arith)
 
   -- of a right layout, a kind that it has gives that section
-  pub lookup-section : first (layoutConditions s) ≡ 0 → (eqb k platformKind || eqb k weightsKind) ≡ true
+  pub lookup-section : first (layoutConditions s) ≡ 0 → hasKind s k ≡ true
       → take (foundOf s k .size) (drop (foundOf s k .start) s) ≡ section s (indexOf s k)
   unfolding foundOf section
   lookup-section clear known = rw (eq-eqb (lookupRefusal s k) 0 (sym (lookup-of clear true known)))
 
   -- and so it tells where that section starts
-  pub lookup-start : first (layoutConditions s) ≡ 0 → (eqb k platformKind || eqb k weightsKind) ≡ true → foundOf s k .start ≡ offset s (indexOf s k)
+  pub lookup-start : first (layoutConditions s) ≡ 0 → hasKind s k ≡ true → foundOf s k .start ≡ offset s (indexOf s k)
   unfolding foundOf
   lookup-start clear known = rw (eq-eqb (lookupRefusal s k) 0 (sym (lookup-of clear true known)))

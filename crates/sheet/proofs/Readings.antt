@@ -10,9 +10,11 @@ use Rattle.job.specs.Checks.{jobConditions}
 use Rattle.job.specs.Working.Sound.{Sound}
 use Rattle.job.specs.declared.Job.{Job}
 use Rattle.job.proofs.Ranges.{job-sound}
-use Rattle.sheet.specs.Layout.{tasks, weightsLength, section, layoutConditions}
+use Rattle.header.specs.Header.{tasks, section}
+use Rattle.kinds.specs.Kinds.{weightsLength}
+use Rattle.layout.specs.Layout.{layoutConditions}
 use Rattle.sheet.specs.Reading.{weightsOf, jobOf, sheetConditions, sheetRefusal, refusedReading, readingOf, sheetOf}
-use Rattle.sheet.proofs.Sections.{layout-numbered, layout-passed, layout-weights}
+use Rattle.layout.proofs.Sections.{layout-numbered, layout-count, layout-weights}
 
 pub sheet-numbered : (s : List ℕ) → Numbered (sheetConditions s)
 unfolding has distinct
@@ -36,7 +38,7 @@ module _ (s : List ℕ) where
   unfolding jobOf
   sheet-sound e =
       let clear = sheet-layout e in
-      job-sound (jobOf s) (layout-passed s clear .count) (sheet-goes-on clear ∙ e)
+      job-sound (jobOf s) (layout-count s clear) (sheet-goes-on clear ∙ e)
 
   -- the two answers of a reading
   pub reading-refused : (number : ℕ) → number ≡ sheetRefusal s → (number ≡ 0 → ⊥) → refusedReading number ≡ readingOf s

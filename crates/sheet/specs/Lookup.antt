@@ -1,19 +1,21 @@
 -- Lookup by kind: which stretch of the caller's own sheet it hands back.
 use Prim.Native.Nat.{ℕ, _+_}
 use mathlib.Core.Path.{_≡_}
-use mathlib.Core.Bool.{cond, not, _||_}
+use mathlib.Core.Bool.{cond, not}
 use mathlib.Core.List.{List, [], _∷_, _++_}
 use denote.Ref.{RefT, now, ptr}
 use lib.Dec.{eqb}
 use lib.ListN.{take, drop}
 use Rattle.refusals.specs.Numbers
 use Rattle.refusals.specs.Refusals.{Condition, refusal, first}
-use Rattle.sheet.specs.Layout.{platformKind, weightsKind, offset, size, indexOf, layoutConditions}
+use Rattle.kinds.specs.Kinds.{hasKind, indexOf}
+use Rattle.header.specs.Header.{offset, size}
+use Rattle.layout.specs.Layout.{layoutConditions}
 use Rattle.sheet.specs.declared.Found.{Found}
 
 -- checks 1 to 6; a kind that the sheet lacks gives 6
 abbrev pub lookupConditions : List ℕ → ℕ → List Condition
-lookupConditions s k = layoutConditions s ++ (refusal Numbers.badKinds (not (eqb k platformKind || eqb k weightsKind)) ∷ [])
+lookupConditions s k = layoutConditions s ++ (refusal Numbers.badKinds (not (hasKind s k)) ∷ [])
 
 unfoldable pub lookupRefusal : List ℕ → ℕ → ℕ
 lookupRefusal s k = first (lookupConditions s k)

@@ -11,8 +11,10 @@ use Rattle.job.specs.Job.{zeroJob}
 use Rattle.job.specs.Checks.{jobConditions}
 use Rattle.job.specs.declared.Platform.{Platform}
 use Rattle.job.specs.declared.Job.{Job}
-use Rattle.sheet.specs.Bytes.{fieldAt, fieldLength}
-use Rattle.sheet.specs.Layout.{platformKind, weightsKind, tasks, offset, indexOf, section, layoutConditions}
+use Rattle.fields.specs.Bytes.{fieldAt, fieldLength}
+use Rattle.kinds.specs.Kinds.{platformKind, weightsKind, indexOf}
+use Rattle.header.specs.Header.{tasks, offset, section}
+use Rattle.layout.specs.Layout.{layoutConditions}
 use Rattle.sheet.specs.declared.Sheet.{Sheet}
 use Rattle.sheet.specs.declared.JobReading.{JobReading}
 use Rattle.sheet.specs.declared.Reading.{Reading}

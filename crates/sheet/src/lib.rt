@@ -1,21 +1,9 @@
-// The job sheet of document 01: its layout, lookup by kind, and reading with checks 1 to 8.
-pub mod bytes;
-pub mod layout;
+// The job sheet of document 01: lookup by kind, and reading with checks 1 to 8.
 pub mod lookup;
 pub mod read;
 
 use job::Job;
 use job::Platform;
-
-pub const LONGEST_SHEET: usize = 4096;
-
-// One byte more than the longest sheet: who takes that many sees that a longer one is too long.
-pub const SHEET_ROOM: usize = LONGEST_SHEET + 1;
-
-// The kinds of sections.
-pub const PLATFORM_KIND: u64 = 1;
-
-pub const WEIGHTS_KIND: u64 = 2;
 
 // What a lookup finds: 0 and where the stretch lies, or the number of its refusal and the empty stretch at byte 0.
 #[repr(C)]

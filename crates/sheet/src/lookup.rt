@@ -2,12 +2,11 @@
 ghost use mathlib.Core.Path.{_≡_};
 ghost use Rattle.sheet.specs.Lookup.{lookupRefusal, foundOf, View};
 use crate::Found;
-use crate::PLATFORM_KIND;
-use crate::WEIGHTS_KIND;
-use crate::layout::index_of;
-use crate::layout::layout_refusal;
-use crate::layout::offset_of;
-use crate::layout::size_of;
+use header::offset_of;
+use header::size_of;
+use kinds::has_kind;
+use kinds::index_of;
+use layout::layout_refusal;
 use refusals::BAD_KINDS;
 
 // The first of checks 1 to 6 that holds, 6 for a kind that the sheet lacks, or 0.
@@ -18,13 +17,10 @@ fn lookup_refusal(s: &[u8], k: u64) -> u64
     if number != 0 {
         return number;
     }
-    if k == PLATFORM_KIND {
-        return 0;
+    if !has_kind(s, k) {
+        return BAD_KINDS;
     }
-    if k == WEIGHTS_KIND {
-        return 0;
-    }
-    BAD_KINDS
+    0
 }
 
 // The number of a lookup, and where its stretch lies.

@@ -1,5 +1,6 @@
--- A sheet that is written in form 1 is read as it was written: layout, sections and values. Assumes nothing.
-use Prim.Native.Nat.{ℕ, _+_, _*_, _≤_, _<_}
+-- A sheet that is written in form 1 is read as it was written: layout, sections and values. The sections stand where a list of sections puts them (`Sheets`).
+-- Assumes nothing.
+use Prim.Native.Nat.{ℕ, zero, suc, _+_, _*_, _≤_, _<_}
 use mathlib.Core.Path.{_≡_, refl, sym, _∙_, ap}
 use mathlib.Core.Bool.{false, cond}
 use mathlib.Core.List.{List, [], _∷_}
@@ -7,9 +8,8 @@ use native.Mathlib.Omega.{arith}
 use native.Mathlib.Decide.{decLt}
 use borrow.Author.Tests.{lt-ltb, le-ltb, eq-eqb, ne-eqb}
 use lib.Dec.{lit<, ltb}
-use lib.ListN.{length, getD, drop, List·getD-eq-default}
-use lib.Seq.{take-all}
-use Rattle.lists.specs.Lists.{tabulate}
+use lib.ListN.{length, getD, List·getD-eq-default}
+use Rattle.lists.specs.Lists.{some, tabulate}
 use Rattle.lists.proofs.Lists.{tabulate-same}
 use Rattle.refusals.specs.Numbers
 use Rattle.refusals.specs.Refusals.{first}
@@ -19,83 +19,99 @@ use Rattle.job.specs.Checks.{badCount, jobConditions}
 use Rattle.job.proofs.Ranges.{count-range}
 use Rattle.job.specs.declared.Platform.{Platform}
 use Rattle.job.specs.declared.Job.{Job}
-use Rattle.sheet.specs.Bytes.{fieldLength}
-use Rattle.sheet.specs.Layout.{
-  tasks,
-  offset,
-  size,
+use Rattle.fields.specs.Bytes.{fieldLength}
+use Rattle.fields.specs.Written.{fieldBytes, fields}
+use Rattle.fields.proofs.Written.{length-fields, field-after, fields-read}
+use Rattle.header.specs.Header.{tasks, tasksMost, sections, offset, size, section, shortestSheet, longestSheet, badLength, badForm, badTasks, badSections}
+use Rattle.extents.specs.Extents.{badExtents, strayByte}
+use Rattle.kinds.specs.Kinds.{
   kind,
-  indexOf,
-  section,
   platformKind,
   weightsKind,
   platformLength,
   weightsLength,
-  shortestSheet,
-  longestSheet,
-  badLength,
-  badForm,
-  badSections,
-  badExtent,
-  badExtents,
-  strayByte,
-  contiguous,
+  lengthOf,
+  indexIn,
+  indexOf,
+  counted,
+  notOne,
   oneOfEach,
+  wrongLength,
   badKinds,
-  layoutConditions,
 }
+use Rattle.kinds.proofs.Lengths.{weights-long}
+use Rattle.layout.specs.Layout.{layoutConditions}
 use Rattle.sheet.specs.Reading.{sectionField, platformOf, weightsOf, jobOf, readingOf}
-use Rattle.sheet.proofs.Stray.{stray-contiguous}
 use Rattle.sheet.proofs.Readings.{sheet-goes-on, reading-accepted}
-use Rattle.writing.specs.Form.{fieldBytes, fields, platformStart, weightsStart, platformFields, platformSection, weightsSection, formOne}
-use Rattle.writing.proofs.Fields.{field-read, length-fields, field-after, fields-read}
+use Rattle.writing.specs.Form.{lengths, formOf, formOne, platformStart, weightsStart, platformFields, platformSection, weightsSection}
+use Rattle.writing.specs.Working.Starts.{startIn}
+use Rattle.writing.proofs.Sheets as sheets
 
 module _ (p : Platform) (w : List ℕ) where
-  platform-offset : offset (formOne p w) 0 ≡ platformStart
-  unfolding offset formOne fields fieldBytes
-  platform-offset = refl
+  -- the two sections
+  abbrev parts : List (List ℕ)
+  parts = platformSection p ∷ weightsSection w ∷ []
 
-  platform-size : size (formOne p w) 0 ≡ platformLength
-  unfolding size formOne fields fieldBytes
-  platform-size = refl
+  abbrev Section : ℕ → Type 0
+  Section i = i < length (lengths parts)
+
+  platform-there : Section 0
+  unfolding lengths
+  platform-there = lit< tt
+
+  weights-there : Section 1
+  unfolding lengths
+  weights-there = lit< tt
+
+  all : length (lengths parts) ≡ sections (formOf (length w) parts)
+  unfolding lengths sections
+  all = refl
+
+  some-byte : (i : ℕ) → Section i → 0 < getD (lengths parts) i 0
+  unfolding lengths
+  some-byte zero h = omega arith
+  some-byte (suc zero) h = omega arith
+  some-byte (suc (suc i)) h = absurd (omega arith)
+
+  platform-offset : offset (formOne p w) 0 ≡ platformStart
+  unfolding formOne lengths startIn
+  platform-offset = sheets.form-offset (length w) parts 0 platform-there
 
   weights-offset : offset (formOne p w) 1 ≡ weightsStart
-  unfolding offset formOne fields fieldBytes
-  weights-offset = refl
+  unfolding formOne lengths startIn fields fieldBytes
+  weights-offset = sheets.form-offset (length w) parts 1 weights-there
+
+  platform-size : size (formOne p w) 0 ≡ platformLength
+  unfolding formOne lengths fields fieldBytes
+  platform-size = sheets.form-size (length w) parts 0 platform-there
 
   weights-size : size (formOne p w) 1 ≡ weightsLength (length w)
-  unfolding size formOne fields fieldBytes
-  weights-size = field-read (weightsLength (length w)) []
-
-  platform-kind : kind (formOne p w) 0 ≡ platformKind
-  unfolding kind offset formOne fields fieldBytes
-  platform-kind = refl
-
-  weights-kind : kind (formOne p w) 1 ≡ weightsKind
-  unfolding kind offset formOne fields fieldBytes
-  weights-kind = refl
-
-  platform-first : indexOf (formOne p w) platformKind ≡ 0
-  unfolding indexOf kind offset formOne fields fieldBytes
-  platform-first = refl
-
-  weights-second : indexOf (formOne p w) weightsKind ≡ 1
-  unfolding indexOf kind offset formOne fields fieldBytes
-  weights-second = refl
+  unfolding formOne lengths
+  weights-size = sheets.form-size (length w) parts 1 weights-there ∙ omega (arith, length-fields w)
 
   platform-section : section (formOne p w) 0 ≡ platformSection p
-  unfolding section size offset formOne fields fieldBytes
-  platform-section = refl
-
-  from-weights : drop weightsStart (formOne p w) ≡ weightsSection w
-  unfolding formOne fields fieldBytes
-  from-weights = refl
+  unfolding formOne
+  platform-section = sheets.form-section (length w) parts 0 platform-there
 
   weights-section : section (formOne p w) 1 ≡ weightsSection w
-  unfolding section
-  weights-section =
-      rw (weights-offset, weights-size, from-weights)
-      (take-all (weightsLength (length w)) (weightsSection w) (omega (arith, length-fields w)))
+  unfolding formOne
+  weights-section = sheets.form-section (length w) parts 1 weights-there
+
+  platform-kind : kind (formOne p w) 0 ≡ platformKind
+  unfolding formOne
+  platform-kind = sheets.form-kind (length w) parts all some-byte 0 platform-there
+
+  weights-kind : kind (formOne p w) 1 ≡ weightsKind
+  unfolding formOne
+  weights-kind = sheets.form-kind (length w) parts all some-byte 1 weights-there
+
+  platform-first : indexOf (formOne p w) platformKind ≡ 0
+  unfolding indexOf indexIn sections some
+  platform-first = rw platform-kind refl
+
+  weights-second : indexOf (formOne p w) weightsKind ≡ 1
+  unfolding indexOf indexIn sections some
+  weights-second = rw platform-kind refl
 
   -- the sections stand where the form says
   pub platform-at : offset (formOne p w) (indexOf (formOne p w) platformKind) ≡ platformStart
@@ -105,12 +121,12 @@ module _ (p : Platform) (w : List ℕ) where
   weights-at = rw weights-second weights-offset
 
   form-tasks : tasks (formOne p w) ≡ length w
-  unfolding tasks formOne
-  form-tasks = refl
+  unfolding formOne
+  form-tasks = sheets.form-tasks (length w) parts
 
   pub form-length : length (formOne p w) ≡ weightsStart + weightsLength (length w)
-  unfolding formOne fields fieldBytes
-  form-length = omega (arith, length-fields w)
+  unfolding formOne lengths startIn fields fieldBytes
+  form-length = sheets.form-end (length w) parts ∙ omega (arith, length-fields w)
 
 -- the fields of a section that is a kind and fields
 section-read : (k : ℕ) (l : List ℕ) (j : ℕ) → j < length l → sectionField (k ∷ fields l) j ≡ getD l j 0
@@ -141,6 +157,18 @@ module _ (p : Platform) (w : List ℕ) where
   form-job =
       rw (form-tasks p w, platform-first p w, weights-second p w, platform-section p w, weights-section p w, platform-read p, weights-read w) refl
 
+  right-kinds : badKinds (formOne p w) ≡ false
+  unfolding badKinds oneOfEach notOne counted wrongLength lengthOf sections some
+  right-kinds =
+      rw (
+        platform-kind p w,
+        weights-kind p w,
+        platform-size p w,
+        weights-size p w,
+        form-tasks p w,
+        eq-eqb (weightsLength (length w)) (weightsLength (length w)) refl,
+      ) refl
+
   module _ (count : badCount (length w) ≡ false) where
     few : length w ≤ taskLimit
     few = count-range (length w) count .few-tasks
@@ -154,59 +182,26 @@ module _ (p : Platform) (w : List ℕ) where
           le-ltb longestSheet (weightsStart + weightsLength (length w)) (omega (arith, few)),
         ) refl
 
-    right-form : badForm (formOne p w) ≡ false
-    unfolding badForm formOne
-    right-form = refl
+    right-count : badTasks (formOne p w) ≡ false
+    unfolding badTasks tasksMost badCount
+    right-count = rw (form-tasks p w) count
 
-    right-sections : badSections (formOne p w) ≡ false
-    unfolding badSections formOne
-    right-sections = refl
-
-    right-extents : badExtents (formOne p w) ≡ false
-    unfolding badExtents badExtent
-    right-extents =
-        rw (
-          platform-offset p w,
-          platform-size p w,
-          weights-offset p w,
-          weights-size p w,
-          form-length p w,
-          le-ltb (weightsStart + weightsLength (length w)) (platformStart + platformLength) (omega arith),
-          ne-eqb (weightsLength (length w)) 0 (λ z. omega arith),
-          le-ltb (weightsStart + weightsLength (length w)) (weightsStart + weightsLength (length w)) (omega arith),
-        ) refl
-
-    -- the sections follow one another, so that no byte is stray
     pub no-stray : strayByte (formOne p w) ≡ false
-    unfolding contiguous
-    no-stray =
-        stray-contiguous (formOne p w) right-extents
-        ∙ rw (
-          platform-offset p w,
-          platform-size p w,
-          weights-offset p w,
-          weights-size p w,
-          form-length p w,
-          eq-eqb (weightsStart + weightsLength (length w)) (weightsStart + weightsLength (length w)) refl,
-        ) refl
-
-    right-kinds : badKinds (formOne p w) ≡ false
-    unfolding badKinds oneOfEach
-    right-kinds =
-        rw (
-          platform-kind p w,
-          weights-kind p w,
-          platform-first p w,
-          weights-second p w,
-          platform-size p w,
-          weights-size p w,
-          form-tasks p w,
-          eq-eqb (weightsLength (length w)) (weightsLength (length w)) refl,
-        ) refl
+    unfolding formOne
+    no-stray = sheets.no-stray (length w) (parts p w) (all p w) (some-byte p w)
 
     form-layout : first (layoutConditions (formOne p w)) ≡ 0
-    unfolding first
-    form-layout = rw (right-length, right-form, form-tasks p w, count, right-sections, right-extents, no-stray, right-kinds) refl
+    unfolding first formOne
+    form-layout =
+        rw (
+          right-length,
+          sheets.right-form (length w) (parts p w),
+          right-count,
+          sheets.right-sections (length w) (parts p w) (all p w) (some-byte p w),
+          sheets.right-extents (length w) (parts p w) (all p w) (some-byte p w),
+          no-stray,
+          right-kinds,
+        ) refl
 
     -- reading accepts it where its values pass checks 7 and 8, and gives just those values
     pub form-reads : first (jobConditions (formJob p w)) ≡ 0 → readingOf (formOne p w) ≡ record { number = Numbers.accepted; job = formJob p w }

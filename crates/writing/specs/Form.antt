@@ -1,33 +1,38 @@
--- A sheet as it is written: the bytes of form 1 for a platform and a list of weights.
-use Prim.Native.Nat.{ℕ, _/_, _%_, _^_}
+-- A sheet as it is written: the bytes of form 1 for a list of sections, and for a platform and a list of weights.
+use Prim.Native.Nat.{ℕ, _+_, _*_}
 use mathlib.Core.List.{List, [], _∷_, _++_}
 use lib.ListN.{length, drop}
 use Rattle.job.specs.declared.Platform.{Platform}
-use Rattle.sheet.specs.Layout.{form, sections, platformKind, weightsKind, platformLength, weightsLength}
+use Rattle.fields.specs.Written.{fields}
+use Rattle.header.specs.Header.{form, pairsStart, pairLength}
+use Rattle.kinds.specs.Kinds.{platformKind, weightsKind}
 
--- a field: 4 bytes, lowest first. A field is below 2^32, so that its last byte is one too
-unfoldable pub fieldBytes : ℕ → List ℕ
-fieldBytes x = x % 2 ^ 8 ∷ x / 2 ^ 8 % 2 ^ 8 ∷ x / 2 ^ 16 % 2 ^ 8 ∷ x / 2 ^ 24 ∷ []
+-- the pairs of offset and length of sections of these sizes, which follow one another from byte `start` on
+unfoldable pub pairs : (start : ℕ) → (sizes : List ℕ) → List ℕ
+pairs start [] = []
+pairs start (z ∷ sizes) = start ∷ z ∷ pairs (start + z) sizes
 
--- fields, one after the other
-unfoldable pub fields : List ℕ → List ℕ
-fields [] = []
-fields (x ∷ l) = fieldBytes x ++ fields l
+-- form 1, n tasks, the number of sections, 0, and the pairs; the first section follows the last pair
+abbrev pub header : ℕ → (sizes : List ℕ) → List ℕ
+header n sizes = form ∷ n ∷ length sizes ∷ 0 ∷ fields (pairs (pairsStart + pairLength * length sizes) sizes)
 
--- 'platform at 20, weights at 49'
-abbrev pub platformStart : ℕ
-platformStart = 20
+-- the sizes of sections
+unfoldable pub lengths : List (List ℕ) → List ℕ
+lengths [] = []
+lengths (x ∷ xs) = length x ∷ lengths xs
 
-abbrev pub weightsStart : ℕ
-weightsStart = 49
+-- sections, one after the other
+unfoldable pub together : List (List ℕ) → List ℕ
+together [] = []
+together (x ∷ xs) = x ++ together xs
+
+-- the sheet of n tasks with these sections, with no gaps
+unfoldable pub formOf : ℕ → (sections : List (List ℕ)) → List ℕ
+formOf n sections = header n (lengths sections) ++ together sections
 
 -- the seven fields of a platform section, in 01's order
 abbrev pub platformFields : Platform → List ℕ
 platformFields p = p .failstop ∷ p .silent ∷ p .cd ∷ p .cm ∷ p .v ∷ p .rd ∷ p .rm ∷ []
-
--- form 1, n tasks, two sections, 0, and the two pairs of offset and length
-abbrev pub header : ℕ → List ℕ
-header n = form ∷ n ∷ sections ∷ 0 ∷ fields (platformStart ∷ platformLength ∷ weightsStart ∷ weightsLength n ∷ [])
 
 abbrev pub platformSection : Platform → List ℕ
 platformSection p = platformKind ∷ fields (platformFields p)
@@ -35,9 +40,16 @@ platformSection p = platformKind ∷ fields (platformFields p)
 abbrev pub weightsSection : (weights : List ℕ) → List ℕ
 weightsSection weights = weightsKind ∷ fields weights
 
--- the sheet of form 1, with no gaps
+-- the platform, then the weights
 unfoldable pub formOne : Platform → (weights : List ℕ) → List ℕ
-formOne p weights = header (length weights) ++ (platformSection p ++ weightsSection weights)
+formOne p weights = formOf (length weights) (platformSection p ∷ weightsSection weights ∷ [])
+
+-- 'platform at 20, weights at 49'
+abbrev pub platformStart : ℕ
+platformStart = 20
+
+abbrev pub weightsStart : ℕ
+weightsStart = 49
 
 -- a buffer in which a sheet is written: its first bytes are the sheet's, as many as it has, and the others are as they were
 abbrev pub written : (sheet buffer : List ℕ) → List ℕ

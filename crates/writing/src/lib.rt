@@ -1,57 +1,41 @@
 // A sheet of form 1, written to a lent buffer: a run of stores from each place on. A join alone calls this, for two task counts that have passed check 3; it
 // writes once it knows that they are few enough together and that the buffer holds the sheet.
 ghost use mathlib.Core.Path.{_≡_};
-ghost use mathlib.Core.List.{_++_};
+ghost use mathlib.Core.List.{_∷_, _++_};
 ghost use Prim.Native.Nat.{_+_, _*_, _≤_};
 ghost use lib.ListN.{length};
 ghost use lib.Seq.{sets};
 ghost use Rattle.units.specs.Limits.{taskLimit};
-ghost use Rattle.sheet.specs.Bytes.{fieldLength};
-ghost use Rattle.sheet.specs.Layout.{platformLength, weightsLength};
-ghost use Rattle.writing.specs.Form.{fieldBytes, fields, platformStart, weightsStart, header, platformSection, weightsSection, formOne, written};
-ghost use Rattle.writing.specs.Working.Ready.{ReadyForHeader, ReadyForSheet};
+ghost use Rattle.fields.specs.Bytes.{fieldLength};
+ghost use Rattle.fields.specs.Written.{fields};
+ghost use Rattle.header.specs.Header.{pairsStart, pairLength};
+ghost use Rattle.kinds.specs.Kinds.{weightsLength};
+ghost use Rattle.writing.specs.Form.{weightsStart, platformFields, pairs, header, formOne, written};
+ghost use Rattle.writing.specs.Working.Ready.{ReadyForPairs, ReadyForHeader, ReadyForSheet};
+use fields::FIELD_LENGTH;
+use fields::put_fields;
+use header::FORM;
+use header::PAIR_LENGTH;
+use header::PAIRS_START;
 use job::Platform;
-use sheet::PLATFORM_KIND;
-use sheet::WEIGHTS_KIND;
-use sheet::bytes::FIELD_LENGTH;
-use sheet::layout::FORM;
-use sheet::layout::PAIRS_START;
-use sheet::layout::PLATFORM_LENGTH;
-use sheet::layout::SECTIONS;
+use kinds::PLATFORM_KIND;
+use kinds::PLATFORM_LENGTH;
+use kinds::WEIGHTS_KIND;
+use kinds::length_of;
 
-const PLATFORM_START: usize = 20;
+// How many fields a platform has.
+pub const PLATFORM_FIELDS: usize = 7;
 
-const WEIGHTS_START: usize = 49;
+// Where the sections start, of which there are two.
+const PLATFORM_START: usize = PAIRS_START + PAIR_LENGTH * 2;
 
-// One field, from byte `at` on.
-fn put_field(buffer: &mut [u8], at: usize, x: u32)
-    requires { ⌜ at + fieldLength ≤ length (now buffer) ⌝ }
-    ensures { λ _. ⌜ now (buffer .exit) ≡ sets (now (buffer .entry)) at (fieldBytes x) ⌝ }
+const WEIGHTS_START: usize = PLATFORM_START + PLATFORM_LENGTH;
+
+// The fields of a platform, in the sheet's order.
+pub fn fields_of(p: Platform) -> [u32; PLATFORM_FIELDS]
+    ensures { λ r. ⌜ r ≡ platformFields p ⌝ }
 {
-    buffer[at] = (x % 256) as u8;
-    buffer[at + 1] = (x / 256 % 256) as u8;
-    buffer[at + 2] = (x / 65_536 % 256) as u8;
-    buffer[at + 3] = (x / 16_777_216) as u8;
-}
-
-// These values as fields, one after the other, from byte `at` on.
-fn put_fields(buffer: &mut [u8], at: usize, values: &[u32])
-    requires { ⌜ at + fieldLength * length (now values) ≤ length (now buffer) ⌝ }
-    ensures { λ _. ⌜ now (buffer .exit) ≡ sets (now (buffer .entry)) at (fields (now (values .entry))) ⌝ }
-{
-    let mut j: usize = 0;
-    while j < values.len() {
-        put_field(buffer, at + FIELD_LENGTH * j, values[j]);
-        j += 1;
-    }
-}
-
-// How long the weights section of n tasks is, with its kind byte.
-pub fn weights_length(n: usize) -> usize
-    requires { ⌜ n ≤ 2 * taskLimit ⌝ }
-    ensures { λ r. ⌜ r ≡ weightsLength n ⌝ }
-{
-    1 + FIELD_LENGTH * n
+    [p.failstop, p.silent, p.cd, p.cm, p.v, p.rd, p.rm]
 }
 
 // How long the sheet of n tasks is.
@@ -59,43 +43,43 @@ pub fn sheet_length(n: usize) -> usize
     requires { ⌜ n ≤ 2 * taskLimit ⌝ }
     ensures { λ r. ⌜ r ≡ weightsStart + weightsLength n ⌝ }
 {
-    WEIGHTS_START + weights_length(n)
+    WEIGHTS_START + length_of(WEIGHTS_KIND, n)
 }
 
-fn put_header(buffer: &mut [u8], n: usize)
-    requires { ⌜ ReadyForHeader n (now buffer) ⌝ }
-    ensures { λ _. ⌜ now (buffer .exit) ≡ sets (now (buffer .entry)) 0 (header n) ⌝ }
+// The pairs of offset and length of sections of these sizes: each starts where the one before ends, the first after the pairs.
+fn put_pairs(buffer: &mut [u8], sizes: &[usize])
+    requires { ⌜ ReadyForPairs (now sizes) (now buffer) ⌝ }
+    ensures { λ _. ⌜ now (buffer .exit) ≡ sets (now (buffer .entry)) pairsStart (fields (pairs (pairsStart + pairLength * length (now (sizes .entry))) (now (sizes .entry)))) ⌝ }
+{
+    let mut start = PAIRS_START + PAIR_LENGTH * sizes.len();
+    let mut i: usize = 0;
+    while i < sizes.len() {
+        let size = sizes[i];
+        let pair = [start as u32, size as u32];
+        put_fields(buffer, PAIRS_START + PAIR_LENGTH * i, &pair[..]);
+        start += size;
+        i += 1;
+    }
+}
+
+fn put_header(buffer: &mut [u8], n: usize, sizes: &[usize])
+    requires { ⌜ ReadyForHeader n (now sizes) (now buffer) ⌝ }
+    ensures { λ _. ⌜ now (buffer .exit) ≡ sets (now (buffer .entry)) 0 (header n (now (sizes .entry))) ⌝ }
 {
     buffer[0] = FORM as u8;
     buffer[1] = n as u8;
-    buffer[2] = SECTIONS as u8;
+    buffer[2] = sizes.len() as u8;
     buffer[3] = 0;
-    let pairs = [
-        PLATFORM_START as u32,
-        PLATFORM_LENGTH as u32,
-        WEIGHTS_START as u32,
-        weights_length(n) as u32,
-    ];
-    put_fields(buffer, PAIRS_START, &pairs[..]);
+    put_pairs(buffer, sizes);
 }
 
-fn put_platform(buffer: &mut [u8], p: Platform)
-    requires { ⌜ platformStart + platformLength ≤ length (now buffer) ⌝ }
-    ensures { λ _. ⌜ now (buffer .exit) ≡ sets (now (buffer .entry)) platformStart (platformSection p) ⌝ }
+// A section from byte `at` on: its kind, then these fields.
+fn put_section(buffer: &mut [u8], at: usize, kind: u8, values: &[u32])
+    requires { ⌜ at + 1 + fieldLength * length (now values) ≤ length (now buffer) ⌝ }
+    ensures { λ _. ⌜ now (buffer .exit) ≡ sets (now (buffer .entry)) at (kind ∷ fields (now (values .entry))) ⌝ }
 {
-    buffer[PLATFORM_START] = PLATFORM_KIND as u8;
-    let values = [p.failstop, p.silent, p.cd, p.cm, p.v, p.rd, p.rm];
-    put_fields(buffer, PLATFORM_START + 1, &values[..]);
-}
-
-fn put_weights(buffer: &mut [u8], early: &[u32], late: &[u32])
-    requires { ⌜ ReadyForSheet (now early) (now late) (now buffer) ⌝ }
-    ensures { λ _. ⌜ now (buffer .exit) ≡ sets (now (buffer .entry)) weightsStart (weightsSection (now (early .entry) ++ now (late .entry))) ⌝ }
-{
-    buffer[WEIGHTS_START] = WEIGHTS_KIND as u8;
-    let start = WEIGHTS_START + 1;
-    put_fields(buffer, start, early);
-    put_fields(buffer, start + FIELD_LENGTH * early.len(), late);
+    buffer[at] = kind;
+    put_fields(buffer, at + 1, values);
 }
 
 // The sheet of a platform and of two lists of weights, one after the other, at the front of the buffer, and nothing else.
@@ -103,7 +87,12 @@ pub fn put_sheet(buffer: &mut [u8], p: Platform, early: &[u32], late: &[u32])
     requires { ⌜ ReadyForSheet (now early) (now late) (now buffer) ⌝ }
     ensures { λ _. ⌜ now (buffer .exit) ≡ written (formOne p (now (early .entry) ++ now (late .entry))) (now (buffer .entry)) ⌝ }
 {
-    put_header(buffer, early.len() + late.len());
-    put_platform(buffer, p);
-    put_weights(buffer, early, late);
+    let n = early.len() + late.len();
+    let sizes = [PLATFORM_LENGTH, length_of(WEIGHTS_KIND, n)];
+    let platform = fields_of(p);
+    let seam = WEIGHTS_START + 1 + FIELD_LENGTH * early.len();
+    put_header(buffer, n, &sizes[..]);
+    put_section(buffer, PLATFORM_START, PLATFORM_KIND as u8, &platform[..]);
+    put_section(buffer, WEIGHTS_START, WEIGHTS_KIND as u8, early);
+    put_fields(buffer, seam, late);
 }

@@ -14,8 +14,12 @@ use Rattle.console.proofs.read_all.Tie as tie
 counted : (n : ℕ) (xs : List ℕ) → n ≤ length xs → Counts n xs
 counted n xs h = (h, sym (length-take-le n xs h))
 
+record Filling (before buf : List ℕ) (n : ℕ) : Type 0 where
+  pub within : n ≤ length before
+  pub long : length buf ≡ length before
+
 abbrev Inv-loop : tie.InvT-loop
-Inv-loop fd buf₀ n₀ buf n = (n ≤ length buf₀) × (length buf ≡ length buf₀)
+Inv-loop fd buf₀ n₀ buf n = Filling buf₀ buf n
 
 abbrev μ-loop : tie.MeasureT-loop
 μ-loop fd buf₀ n₀ buf n = length buf₀ - n

@@ -1,6 +1,6 @@
 -- `console::read_marks` meets its contract. The argument's length is at most the buffer's, and converting it in its place changes no length. Assumes nothing.
 use mathlib.Core.Path.{sym, _∙_}
-use Rattle.console.proofs.Texts.{counts-front}
+use Rattle.console.proofs.Counts.{counts-front}
 use borrow.Author.Needs.{needs}
 use Rattle.console.proofs.read_marks.Statement.{statement}
 use Rattle.console.proofs.read_marks.Tie as tie

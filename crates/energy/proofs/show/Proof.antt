@@ -18,7 +18,7 @@ task-count-requires : tie.Need-task-count-requires
 task-count-requires c κs = search needs
 
 plan-requires : tie.Need-plan-requires
-plan-requires c κs = λ e. omega (arith, c .task-count .ensures .0, energy-tasks _ _ _ _ _ (c .before .before .before .plan-energy .ensures) e)
+plan-requires c κs = λ e. omega (arith, c .task-count .ensures .is, energy-tasks _ _ _ _ _ (c .before .before .before .plan-energy .ensures) e)
 
 returns : tie.Need-returns
 returns c = search needs

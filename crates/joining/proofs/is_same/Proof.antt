@@ -1,93 +1,89 @@
--- `joining::is_same` meets its contract. The first field that differs decides. Assumes nothing.
-use borrow.Author.Tests.{eq-eqb, ne-eqb}
+-- `joining::is_same` meets its contract. The loop's invariant: no field passed differs. The measure is what is left of the seven. Assumes nothing.
+use Prim.Native.Nat.{ℕ, _-_}
+use mathlib.Core.Path.{ap}
+use mathlib.Core.Bool.{Bool, not}
+use mathlib.Core.List.{List}
+use native.Mathlib.Omega.{arith}
+use borrow.Author.Tests.{eq-eqb}
+use lib.Dec.{eqb}
+use lib.ListN.{getD}
+use Rattle.header.proofs.Loop.{NoneYet, none-start, none-more, none-left}
 use Rattle.joining.specs.Join.{samePlatform}
+use Rattle.joining.proofs.Values.{other-platform}
+use borrow.Author.Needs.{needs}
 use Rattle.joining.proofs.is_same.Statement.{statement}
 use Rattle.joining.proofs.is_same.Tie as tie
 
-returns : tie.Need-returns
-unfolding samePlatform
-returns c =
-    rw (ne-eqb _ _ (c .if1 .taken))
+abbrev unlike : List ℕ → List ℕ → ℕ → Bool
+unlike a b i = not (eqb (getD a i 0) (getD b i 0))
 
-returns-2 : tie.Need-returns-2
+abbrev Inv-loop : tie.InvT-loop
+Inv-loop a b i₀ i = NoneYet (unlike a b) 7 i
+
+abbrev μ-loop : tie.MeasureT-loop
+μ-loop a b i₀ i = 7 - i
+
+fields-of-requires : tie.Need-fields-of-requires Inv-loop μ-loop
+fields-of-requires c κs = search needs
+
+fields-of-requires-2 : tie.Need-fields-of-requires-2 Inv-loop μ-loop
+fields-of-requires-2 c κs = search needs
+
+loop-holds : tie.Need-loop-holds Inv-loop μ-loop
+loop-holds c = none-start _
+
+mul-if1 : tie.Need-mul-if1 Inv-loop μ-loop
+mul-if1 c = omega arith
+
+array-read-if1 : tie.Need-array-read-if1 Inv-loop μ-loop
+array-read-if1 c = omega arith
+
+mul-if1-2 : tie.Need-mul-if1-2 Inv-loop μ-loop
+mul-if1-2 c = omega arith
+
+array-read-if1-2 : tie.Need-array-read-if1-2 Inv-loop μ-loop
+array-read-if1-2 c = omega arith
+
+returns : tie.Need-returns Inv-loop μ-loop
+returns c =
+    let loop = c .before .before in
+    let second = loop .before in
+    let first = second .before in
+    let differ = rw (first .fields-of .ensures, second .fields-of2 .ensures) at (c .if1 .taken) in
+    other-platform _ _ (loop .loop .i) (omega arith) differ
+
+add-i : tie.Need-add-i Inv-loop μ-loop
+add-i c = omega arith
+
+loop-less : tie.Need-loop-less Inv-loop μ-loop
+loop-less c = omega arith
+
+loop-again : tie.Need-loop-again Inv-loop μ-loop
+loop-again c = none-more _ (omega arith) (c .before .before .loop .inv) (ap not (eq-eqb _ _ (c .if1 .left)))
+
+returns-2 : tie.Need-returns-2 Inv-loop μ-loop
 unfolding samePlatform
 returns-2 c =
-    let test1 = c .before .before .before in
-    rw (eq-eqb _ _ (test1 .if1 .left), ne-eqb _ _ (c .if2 .taken))
-
-returns-3 : tie.Need-returns-3
-unfolding samePlatform
-returns-3 c =
-    let test2 = c .before .before .before in
-    let test1 = test2 .before .before .before in
-    rw (
-      eq-eqb _ _ (test1 .if1 .left),
-      eq-eqb _ _ (test2 .if2 .left),
-      ne-eqb _ _ (c .if3 .taken),
-    )
-
-returns-4 : tie.Need-returns-4
-unfolding samePlatform
-returns-4 c =
-    let test3 = c .before .before .before in
-    let test2 = test3 .before .before .before in
-    let test1 = test2 .before .before .before in
-    rw (
-      eq-eqb _ _ (test1 .if1 .left),
-      eq-eqb _ _ (test2 .if2 .left),
-      eq-eqb _ _ (test3 .if3 .left),
-      ne-eqb _ _ (c .if4 .taken),
-    )
-
-returns-5 : tie.Need-returns-5
-unfolding samePlatform
-returns-5 c =
-    let test4 = c .before .before .before in
-    let test3 = test4 .before .before .before in
-    let test2 = test3 .before .before .before in
-    let test1 = test2 .before .before .before in
-    rw (
-      eq-eqb _ _ (test1 .if1 .left),
-      eq-eqb _ _ (test2 .if2 .left),
-      eq-eqb _ _ (test3 .if3 .left),
-      eq-eqb _ _ (test4 .if4 .left),
-      ne-eqb _ _ (c .if5 .taken),
-    )
-
-returns-6 : tie.Need-returns-6
-unfolding samePlatform
-returns-6 c =
-    let test5 = c .before .before .before in
-    let test4 = test5 .before .before .before in
-    let test3 = test4 .before .before .before in
-    let test2 = test3 .before .before .before in
-    let test1 = test2 .before .before .before in
-    rw (
-      eq-eqb _ _ (test1 .if1 .left),
-      eq-eqb _ _ (test2 .if2 .left),
-      eq-eqb _ _ (test3 .if3 .left),
-      eq-eqb _ _ (test4 .if4 .left),
-      eq-eqb _ _ (test5 .if5 .left),
-      ne-eqb _ _ (c .if6 .taken),
-    )
-
-returns-7 : tie.Need-returns-7
-unfolding samePlatform
-returns-7 c =
-    let test6 = c .before .before in
-    let test5 = test6 .before .before .before in
-    let test4 = test5 .before .before .before in
-    let test3 = test4 .before .before .before in
-    let test2 = test3 .before .before .before in
-    let test1 = test2 .before .before .before in
-    rw (
-      eq-eqb _ _ (test1 .if1 .left),
-      eq-eqb _ _ (test2 .if2 .left),
-      eq-eqb _ _ (test3 .if3 .left),
-      eq-eqb _ _ (test4 .if4 .left),
-      eq-eqb _ _ (test5 .if5 .left),
-      eq-eqb _ _ (test6 .if6 .left),
-    )
+    let second = c .before .before in
+    let first = second .before in
+    let none = rw (first .fields-of .ensures, second .fields-of2 .ensures) at (none-left _ (omega arith) (c .before .loop .inv)) in
+    rw none
 
 pub is-same-spec : {M : Type 1} → statement M
-is-same-spec = tie.close (tie.spec returns returns-2 returns-3 returns-4 returns-5 returns-6 returns-7)
+is-same-spec =
+    tie.close
+    (tie.spec
+    Inv-loop
+    μ-loop
+    fields-of-requires
+    fields-of-requires-2
+    loop-holds
+    mul-if1
+    array-read-if1
+    mul-if1-2
+    array-read-if1-2
+    returns
+    add-i
+    loop-less
+    loop-again
+    returns-2)

@@ -1,17 +1,25 @@
 -- `logs::applied` meets its contract. The loop's invariant: the records before i are accepted and lead to the answer at hand. A refusal at a record is the answer of the whole log. Assumes nothing.
-use Prim.Native.Nat.{_-_, _≤_}
+use Prim.Native.Nat.{ℕ, _-_, _≤_}
 use mathlib.Core.Path.{_≡_, sym, _∙_, ap}
+use mathlib.Core.List.{List}
 use native.Mathlib.Omega.{arith}
 use Rattle.refusals.specs.Numbers
 use Rattle.following.specs.Run.{refused}
+use Rattle.state.specs.declared.Run.{Run}
+use Rattle.following.specs.declared.Stepped.{Stepped}
 use Rattle.logs.specs.Log.{recordCount, applied}
 use Rattle.logs.proofs.Records.{bad-recorded, event-recorded, applied-more, applied-stops, applied-all, accepted-is}
 use Rattle.logs.proofs.applied.Statement.{statement}
 use Rattle.logs.proofs.applied.Tie as tie
 use borrow.Author.Needs.{needs}
 
+record Followed (run : Run) (log : List ℕ) (count : ℕ) (answer : Stepped) (i : ℕ) : Type 0 where
+  pub within : i ≤ count
+  pub leads : applied run log i ≡ answer
+  pub accepted : answer .number ≡ 0
+
 abbrev Inv-loop : tie.InvT-loop
-Inv-loop run log count answer₀ i₀ answer i = (i ≤ count) × (applied run log i ≡ answer) × (answer .number ≡ 0)
+Inv-loop run log count answer₀ i₀ answer i = Followed run log count answer i
 
 abbrev μ-loop : tie.MeasureT-loop
 μ-loop run log count answer₀ i₀ answer i = count - i
@@ -27,7 +35,7 @@ accepted-requires c κs = search needs
 
 loop-holds : tie.Need-loop-holds Inv-loop μ-loop
 unfolding applied
-loop-holds c = (omega arith, sym (c .accepted .ensures), ap (λ a. a .number) (c .accepted .ensures))
+loop-holds c = record { within = omega arith; leads = sym (c .accepted .ensures); accepted = ap (λ a. a .number) (c .accepted .ensures) }
 
 record-at-requires : tie.Need-record-at-requires Inv-loop μ-loop
 unfolding recordCount
@@ -50,7 +58,7 @@ returns c =
     let args = c .before .before .before .before .before .before .before .before .args in
     let state = loop .answer .run in
     c .refused .ensures
-    ∙ applied-stops (args .run) (args .log .now) (loop .i) state (loop .inv .1 ∙ accepted-is (loop .answer) (loop .inv .2)) (refused Numbers.badRecord state)
+    ∙ applied-stops (args .run) (args .log .now) (loop .i) state (loop .inv .leads ∙ accepted-is (loop .answer) (loop .inv .accepted)) (refused Numbers.badRecord state)
     (rw (← (record-at .ensures)) (bad-recorded state _ (sym (bad-record .ensures) ∙ if1 .taken))) (λ e. omega (arith, e)) _ (loop-test .taken)
 
 event-of-requires : tie.Need-event-of-requires Inv-loop μ-loop
@@ -76,7 +84,7 @@ returns-2 c =
     let args = c .before .before .before .before .before .before .before .before .before .before .before .before .args in
     let state = loop .answer .run in
     c .refused2 .ensures
-    ∙ applied-stops (args .run) (args .log .now) (loop .i) state (loop .inv .1 ∙ accepted-is (loop .answer) (loop .inv .2)) (step .result)
+    ∙ applied-stops (args .run) (args .log .now) (loop .i) state (loop .inv .leads ∙ accepted-is (loop .answer) (loop .inv .accepted)) (step .result)
     (rw (← (record-at .ensures)) (step .ensures ∙ rw (event-of .ensures) (event-recorded state _ (sym (bad-record .ensures) ∙ if1 .left)))) (if2 .taken) _
     (loop-test .taken)
 
@@ -97,12 +105,14 @@ loop-again c =
     let record-at = c .before .before .before .before .before .before .record-at in
     let loop = c .before .before .before .before .before .before .before .before .loop in
     let args = c .before .before .before .before .before .before .before .before .before .before .before .args in
-    let state = loop .answer .run in (
-      omega arith,
-      applied-more (args .run) (args .log .now) (loop .i) state (loop .inv .1 ∙ accepted-is (loop .answer) (loop .inv .2)) (step .result)
-          (rw (← (record-at .ensures)) (step .ensures ∙ rw (event-of .ensures) (event-recorded state _ (sym (bad-record .ensures) ∙ if1 .left)))),
-      c .if2 .left,
-    )
+    let state = loop .answer .run in
+    record {
+      within = omega arith;
+      leads =
+          applied-more (args .run) (args .log .now) (loop .i) state (loop .inv .leads ∙ accepted-is (loop .answer) (loop .inv .accepted)) (step .result)
+          (rw (← (record-at .ensures)) (step .ensures ∙ rw (event-of .ensures) (event-recorded state _ (sym (bad-record .ensures) ∙ if1 .left))));
+      accepted = c .if2 .left;
+    }
 
 returns-3 : tie.Need-returns-3 Inv-loop μ-loop
 unfolding recordCount
@@ -110,7 +120,7 @@ returns-3 c =
     let loop = c .before .loop in
     let args = c .before .before .before .before .args in
     let e : loop .i ≡ recordCount (args .log .now) = omega arith in
-    applied-all (args .run) (args .log .now) _ (loop .answer) (rw (← e) (loop .inv .1)) (loop .inv .2)
+    applied-all (args .run) (args .log .now) _ (loop .answer) (rw (← e) (loop .inv .leads)) (loop .inv .accepted)
 
 pub applied-spec : {M : Type 1} → statement M
 applied-spec =

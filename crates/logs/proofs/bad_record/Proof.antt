@@ -20,7 +20,7 @@ returns-2 c =
     let if1 = c .before .before .if1 in
     let byte = c .before .byte in
     let if2 = c .if2 in
-    rw (le-ltb _ _ (if1 .left), ← (byte .ensures .0), lt-ltb _ _ (if2 .taken))
+    rw (le-ltb _ _ (if1 .left), ← (byte .ensures .is), lt-ltb _ _ (if2 .taken))
 
 returns-3 : tie.Need-returns-3
 unfolding badRecord
@@ -29,7 +29,7 @@ returns-3 c =
     let byte = c .before .before .byte in
     let if2 = c .before .if2 in
     let if3 = c .if3 in
-    rw (le-ltb _ _ (if1 .left), ← (byte .ensures .0), le-ltb _ _ (if2 .left), lt-ltb _ _ (if3 .taken))
+    rw (le-ltb _ _ (if1 .left), ← (byte .ensures .is), le-ltb _ _ (if2 .left), lt-ltb _ _ (if3 .taken))
 
 returns-4 : tie.Need-returns-4
 unfolding badRecord
@@ -39,7 +39,7 @@ returns-4 c =
     let if2 = c .before .before .if2 in
     let if3 = c .before .if3 in
     let if4 = c .if4 in
-    rw (le-ltb _ _ (if1 .left), ← (byte .ensures .0), le-ltb _ _ (if2 .left), le-ltb _ _ (if3 .left), eq-eqb _ _ (if4 .taken))
+    rw (le-ltb _ _ (if1 .left), ← (byte .ensures .is), le-ltb _ _ (if2 .left), le-ltb _ _ (if3 .left), eq-eqb _ _ (if4 .taken))
 
 field-requires : tie.Need-field-requires
 field-requires c κs = search needs
@@ -55,7 +55,7 @@ returns-5 c =
     let field = c .field in
     rw (
       le-ltb _ _ (if1 .left),
-      ← (byte .ensures .0),
+      ← (byte .ensures .is),
       le-ltb _ _ (if2 .left),
       le-ltb _ _ (if3 .left),
       ne-eqb _ _ (if4 .left),

@@ -13,7 +13,7 @@ unfolding eventOf
 returns c =
     let byte = c .before .byte in
     let if1 = c .if1 in
-    rw (← (byte .ensures .0), eq-eqb _ _ (if1 .taken))
+    rw (← (byte .ensures .is), eq-eqb _ _ (if1 .taken))
 
 returns-2 : tie.Need-returns-2
 unfolding eventOf
@@ -21,7 +21,7 @@ returns-2 c =
     let byte = c .before .before .byte in
     let if1 = c .before .if1 in
     let if2 = c .if2 in
-    rw (← (byte .ensures .0), ne-eqb _ _ (if1 .left), eq-eqb _ _ (if2 .taken))
+    rw (← (byte .ensures .is), ne-eqb _ _ (if1 .left), eq-eqb _ _ (if2 .taken))
 
 returns-3 : tie.Need-returns-3
 unfolding eventOf
@@ -30,7 +30,7 @@ returns-3 c =
     let if1 = c .before .before .if1 in
     let if2 = c .before .if2 in
     let if3 = c .if3 in
-    rw (← (byte .ensures .0), ne-eqb _ _ (if1 .left), ne-eqb _ _ (if2 .left), eq-eqb _ _ (if3 .taken))
+    rw (← (byte .ensures .is), ne-eqb _ _ (if1 .left), ne-eqb _ _ (if2 .left), eq-eqb _ _ (if3 .taken))
 
 field-requires : tie.Need-field-requires
 field-requires c κs = search needs
@@ -43,7 +43,7 @@ returns-4 c =
     let if2 = c .before .before .if2 in
     let if3 = c .before .if3 in
     let field = c .field in
-    rw (← (byte .ensures .0), ne-eqb _ _ (if1 .left), ne-eqb _ _ (if2 .left), ne-eqb _ _ (if3 .left), field .ensures)
+    rw (← (byte .ensures .is), ne-eqb _ _ (if1 .left), ne-eqb _ _ (if2 .left), ne-eqb _ _ (if3 .left), field .ensures)
 
 pub event-of-spec : {M : Type 1} → statement M
 event-of-spec =

@@ -18,7 +18,7 @@ task-count-requires : tie.Need-task-count-requires
 task-count-requires c κs = search needs
 
 plan-requires-2 : tie.Need-plan-requires-2
-plan-requires-2 c κs = λ e. omega (arith, c .task-count .ensures .0, plan-tasks _ _ _ _ (c .before .before .before .plan .ensures) e)
+plan-requires-2 c κs = λ e. omega (arith, c .task-count .ensures .is, plan-tasks _ _ _ _ (c .before .before .before .plan .ensures) e)
 
 returns : tie.Need-returns
 returns c = search needs

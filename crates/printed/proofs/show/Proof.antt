@@ -20,7 +20,7 @@ task-count-requires c κs = search needs
 
 plan-requires : tie.Need-plan-requires
 unfolding jobOf
-plan-requires c κs = λ e. omega (arith, c .task-count .ensures .0, printed-tasks _ _ _ _ (c .before .before .before .printed .ensures) e)
+plan-requires c κs = λ e. omega (arith, c .task-count .ensures .is, printed-tasks _ _ _ _ (c .before .before .before .printed .ensures) e)
 
 returns : tie.Need-returns
 returns c = search needs

@@ -1,7 +1,7 @@
 -- `sheet::lookup::find` meets its contract. The lookup's number by the branch: the section found, or the empty stretch. Assumes nothing.
 use mathlib.Core.Path.{_∙_, sym, ap}
 use Rattle.sheet.proofs.Lookups.{found-refused, found-section}
-use Rattle.sheet.specs.Layout.{offset, size}
+use Rattle.header.specs.Header.{offset, size}
 use borrow.Author.Needs.{needs}
 use Rattle.sheet.proofs.lookup.find.Statement.{statement}
 use Rattle.sheet.proofs.lookup.find.Tie as tie
@@ -31,9 +31,9 @@ returns-2 c =
     let lookup-refusal = c .before .before .before .before .lookup-refusal in
     let offset-of = c .before .offset-of in
     let size-of = c .size-of in
-    let index = index-of .ensures .0 in
+    let index = index-of .ensures .is in
     found-section _ _ _ _ (sym (if1 .left) ∙ lookup-refusal .ensures)
-    (offset-of .ensures .0 ∙ ap (offset _) index) (size-of .ensures .0 ∙ ap (size _) index)
+    (offset-of .ensures .is ∙ ap (offset _) index) (size-of .ensures .is ∙ ap (size _) index)
 
 pub find-spec : {M : Type 1} → statement M
 find-spec =

@@ -1,8 +1,8 @@
--- `sheet::lookup::lookup_refusal` meets its contract. The layout's refusal decides, then whether the kind is one of the two. Assumes nothing.
+-- `sheet::lookup::lookup_refusal` meets its contract. The layout's refusal decides, then whether the sheet has the kind. Assumes nothing.
 use mathlib.Core.Path.{_∙_, sym}
 use mathlib.Core.Bool.{true, false}
 use native.Mathlib.Omega.{arith}
-use borrow.Author.Tests.{eq-eqb, ne-eqb}
+use borrow.Author.Tests.{not-true, not-false}
 use Rattle.sheet.proofs.Lookups.{lookup-refused, lookup-of}
 use borrow.Author.Needs.{needs}
 use Rattle.sheet.proofs.lookup.lookup_refusal.Statement.{statement}
@@ -17,29 +17,20 @@ returns c =
     let if1 = c .if1 in
     layout-refusal .ensures ∙ lookup-refused _ _ (omega (arith, layout-refusal .ensures, if1 .taken))
 
+has-kind-requires : tie.Need-has-kind-requires
+has-kind-requires c κs = search needs
+
 returns-2 : tie.Need-returns-2
 returns-2 c =
-    let layout-refusal = c .before .before .layout-refusal in
-    let if1 = c .before .if1 in
-    let if2 = c .if2 in
-    lookup-of _ _ (sym (layout-refusal .ensures) ∙ if1 .left) true (rw (eq-eqb _ _ (if2 .taken)))
+    let has-kind = c .before .has-kind in
+    let if1 = c .before .before in
+    lookup-of _ _ (sym (if1 .before .layout-refusal .ensures) ∙ if1 .if1 .left) false (sym (has-kind .ensures) ∙ not-true _ (c .if2 .taken))
 
 returns-3 : tie.Need-returns-3
 returns-3 c =
-    let layout-refusal = c .before .before .before .layout-refusal in
-    let if1 = c .before .before .if1 in
-    let if2 = c .before .if2 in
-    let if3 = c .if3 in
-    lookup-of _ _ (sym (layout-refusal .ensures) ∙ if1 .left) true (rw (ne-eqb _ _ (if2 .left), eq-eqb _ _ (if3 .taken)))
-
-returns-4 : tie.Need-returns-4
-returns-4 c =
-    let layout-refusal = c .before .before .before .layout-refusal in
-    let if1 = c .before .before .if1 in
-    let if2 = c .before .if2 in
-    let if3 = c .if3 in
-    lookup-of _ _ (sym (layout-refusal .ensures) ∙ if1 .left) false (rw (ne-eqb _ _ (if2 .left), ne-eqb _ _ (if3 .left)))
+    let has-kind = c .before .has-kind in
+    let if1 = c .before .before in
+    lookup-of _ _ (sym (if1 .before .layout-refusal .ensures) ∙ if1 .if1 .left) true (sym (has-kind .ensures) ∙ not-false _ (c .if2 .left))
 
 pub lookup-refusal-spec : {M : Type 1} → statement M
-lookup-refusal-spec =
-    tie.close (tie.spec layout-refusal-requires returns returns-2 returns-3 returns-4)
+lookup-refusal-spec = tie.close (tie.spec layout-refusal-requires returns has-kind-requires returns-2 returns-3)

@@ -1,10 +1,10 @@
 -- `sheet::read::job_of` meets its contract. The task count and the two sections, each looked up and handed to its reader. Assumes nothing.
-use mathlib.Core.Path.{refl}
 use native.Mathlib.Omega.{arith}
-use Rattle.sheet.specs.Layout.{platformKind, weightsKind}
+use Rattle.kinds.specs.Kinds.{platformKind, weightsKind}
 use Rattle.sheet.specs.Reading.{jobOf}
 use Rattle.sheet.proofs.Lookups.{lookup-section}
-use Rattle.sheet.proofs.Sections.{layout-tasks}
+use Rattle.layout.proofs.Sections.{layout-passed, layout-tasks}
+use Rattle.kinds.proofs.Lengths.{has-platform, has-weights}
 use borrow.Author.Needs.{needs}
 use Rattle.sheet.proofs.read.job_of.Statement.{statement}
 use Rattle.sheet.proofs.read.job_of.Tie as tie
@@ -25,7 +25,7 @@ weights-of-requires : tie.Need-weights-of-requires
 weights-of-requires c κs =
     let task-count = c .before .before .before .task-count in
     let pre = c .before .before .before .before .before .pre in
-    omega (arith, task-count .ensures .0, layout-tasks _ (pre) .few-tasks)
+    omega (arith, task-count .ensures .is, layout-tasks _ (pre) .few-tasks)
 
 returns : tie.Need-returns
 unfolding jobOf
@@ -36,14 +36,15 @@ returns c =
     let lookup = c .before .before .before .lookup in
     let lookup2 = c .before .lookup2 in
     let pre = c .before .before .before .before .before .before .pre in
+    let kinds = layout-passed _ pre .kinds in
     rw (
       weights-of .ensures,
-      task-count .ensures .0,
+      task-count .ensures .is,
       platform-of .ensures,
       lookup .ensures .bytes,
       lookup2 .ensures .bytes,
-      lookup-section _ platformKind pre refl,
-      lookup-section _ weightsKind pre refl,
+      lookup-section _ platformKind pre (has-platform _ kinds),
+      lookup-section _ weightsKind pre (has-weights _ kinds),
     )
 
 pub job-of-spec : {M : Type 1} → statement M

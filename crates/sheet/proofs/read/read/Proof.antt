@@ -1,10 +1,12 @@
 -- `sheet::read::read` meets its contract. The reading's number decides between the two cases, and the values are those of its job. Assumes nothing.
-use mathlib.Core.Path.{refl, sym, _∙_, ap}
+use mathlib.Core.Path.{sym, _∙_, ap}
 use native.Mathlib.Omega.{arith}
-use Rattle.sheet.specs.Layout.{weightsKind}
+use Rattle.kinds.specs.Kinds.{weightsKind}
 use Rattle.sheet.specs.Reading.{jobOf, sheetOf, Says}
 use Rattle.sheet.specs.declared.Found.{Found}
 use Rattle.sheet.specs.declared.JobReading.{JobReading}
+use Rattle.kinds.proofs.Lengths.{has-weights}
+use Rattle.layout.proofs.Sections.{layout-passed}
 use Rattle.sheet.proofs.Lookups.{lookup-start}
 use Rattle.sheet.proofs.Readings.{reading-number, reading-job, sheet-layout}
 use borrow.Author.Needs.{needs}
@@ -34,7 +36,8 @@ returns-2 c =
     let number = ap (λ (r : JobReading). r .number) (read-job .ensures) ∙ reading-number _ in
     let accepted = sym number ∙ if1 .left in
     let job = ap (λ (r : JobReading). r .job) (read-job .ensures) ∙ reading-job _ accepted in
-    let start = ap (λ (f : Found). f .start) (find .ensures) ∙ lookup-start _ weightsKind (sheet-layout _ accepted) refl in
+    let layout = sheet-layout _ accepted in
+    let start = ap (λ (f : Found). f .start) (find .ensures) ∙ lookup-start _ weightsKind layout (has-weights _ (layout-passed _ layout .kinds)) in
     (accepted, rw (job, start))
 
 pub read-spec : {M : Type 1} → statement M

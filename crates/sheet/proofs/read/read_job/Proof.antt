@@ -4,7 +4,7 @@ use native.Mathlib.Omega.{arith}
 use Rattle.refusals.specs.Refusals.{first}
 use Rattle.job.specs.Checks.{jobConditions}
 use Rattle.sheet.specs.Reading.{jobOf}
-use Rattle.sheet.proofs.Sections.{layout-tasks}
+use Rattle.layout.proofs.Sections.{layout-tasks}
 use Rattle.sheet.proofs.Readings.{sheet-refused, sheet-goes-on, reading-refused, reading-accepted}
 use borrow.Author.Needs.{needs}
 use Rattle.sheet.proofs.read.read_job.Statement.{statement}

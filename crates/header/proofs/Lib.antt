@@ -1,0 +1,3 @@
+-- The laws of headers that the crates above cite.
+pub mod Header
+pub mod Loop

@@ -1,0 +1,2 @@
+-- Laws that the crate's own proofs and the programs cite.
+pub mod Texts

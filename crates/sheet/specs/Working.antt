@@ -1,2 +1,0 @@
--- Definitions that proofs work with and that no reader has to believe.
-pub mod Extent
