@@ -147,8 +147,8 @@ e-e-verif-requires t c κs =
       record {
         sound = pre .1 .stretch .sound;
         copies = pre .1 .copies;
-        start = pre .1 .start;
-        end = omega (arith, pre .1 .stretch .order, pre .1 .stretch .end);
+        start = omega (arith, pre .1 .start);
+        end = omega (arith, pre .1 .start, pre .1 .stretch .order, pre .1 .stretch .end);
         time = pre .1 .time;
       },
     )

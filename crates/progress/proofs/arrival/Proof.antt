@@ -1,6 +1,5 @@
 -- `progress::arrival` meets its contract. An allowed stretch has growth sums within the caps, and what is carried is below the limit, so that no product wraps.
 -- Assumes nothing.
-use native.Mathlib.Nat.{le-trans}
 use native.Mathlib.Omega.{arith}
 use Rattle.costs.proofs.Ranges.{vAt-range, rdAt-range, rmAt-range, factors-bounded}
 use Rattle.costs.specs.Working.Factors.{ReadyForFactors}
@@ -25,7 +24,7 @@ stretch-factors-requires c κs =
 rd-at-requires : tie.Need-rd-at-requires
 rd-at-requires c κs =
     let pre = c .before .before .pre in
-    le-trans (pre .carried .disk) (pre .carried .position)
+    omega (arith, pre .carried .disk, pre .carried .memory, pre .carried .position)
 
 add-disk : tie.Need-add-disk
 add-disk c = search needs
@@ -33,7 +32,7 @@ add-disk c = search needs
 rm-at-requires : tie.Need-rm-at-requires
 rm-at-requires c κs =
     let pre = c .before .before .before .before .pre in
-    le-trans (pre .carried .memory) (pre .carried .position)
+    omega (arith, pre .carried .disk, pre .carried .memory, pre .carried .position)
 
 stretch-time-requires : tie.Need-stretch-time-requires
 stretch-time-requires c κs =
