@@ -1,7 +1,6 @@
 // Where the sections of a sheet lie: check 5, and request 105's 28. Each runs over the sections in their order.
 ghost use mathlib.Core.Path.{_≡_};
-ghost use Prim.Native.Nat.{_<_, _≤_, _^_};
-ghost use Rattle.fields.specs.Bytes.{Ranged};
+ghost use Prim.Native.Nat.{_<_, _^_};
 ghost use Rattle.extents.specs.Extents.{endBefore, badExtent, badExtents, contiguous};
 use header::least_offset;
 use header::offset_of;

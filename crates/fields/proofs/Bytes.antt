@@ -1,12 +1,12 @@
 -- A field says its four bytes, so that lists of bytes with the same fields are the same; a piece of a list of bytes is one, and so is a list with one byte
 -- changed. Assumes nothing.
-use Prim.Native.Nat.{ℕ, zero, suc, _+_, _-_, _*_, _^_, _/_, _%_, _≤_, _<_}
+use Prim.Native.Nat.{ℕ, zero, suc, _+_, _-_, _*_, _^_, _/_, _%_, _<_}
 use mathlib.Core.Path.{_≡_, refl, sym, _∙_}
 use mathlib.Core.List.{List}
 use native.Mathlib.Decide.{ℕ-discrete, decLt}
 use native.Mathlib.Omega.{arith}
 use lib.Dec.{lit<}
-use lib.ListN.{length, getD, take, drop, set, length-set, length-take, List·getD-eq-default}
+use lib.ListN.{length, take, drop, set, length-set, length-take, List·getD-eq-default}
 use lib.Seq.{ext-getD, getD-take, getD-drop, getD-set-same, getD-set-other}
 use Rattle.fields.specs.Bytes.{byteAt, fieldAt, fieldLength, AreBytes}
 

@@ -1,6 +1,6 @@
 -- What the form decides: that the limit of the task count is within the product's, and that there are at least two sections. Assumes nothing.
 use Prim.Native.Nat.{ℕ, _≤_}
-use mathlib.Core.Path.{_≡_, refl}
+use mathlib.Core.Path.{refl}
 use mathlib.Core.List.{List}
 use lib.Dec.{lit≤}
 use Rattle.units.specs.Limits.{taskLimit}

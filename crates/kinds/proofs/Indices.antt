@@ -2,17 +2,17 @@
 -- one too. Assumes nothing.
 use Prim.Native.Nat.{ℕ, zero, suc, _+_, _≤_, _<_}
 use mathlib.Core.Path.{_≡_, refl, sym, _∙_}
-use mathlib.Core.Bool.{Bool, true, false, cond, not, _||_, true≢false}
+use mathlib.Core.Bool.{Bool, true, false, cond, _||_, true≢false}
 use mathlib.Core.List.{List}
 use mathlib.Core.Logic.{_⊎_, inl, inr, _≢_}
 use native.Mathlib.Nat.{eq-or-lt-of-le, le-of-suc-le-suc}
-use native.Mathlib.Decide.{ℕ-discrete, decLt}
+use native.Mathlib.Decide.{ℕ-discrete}
 use native.Mathlib.Numerals.{add-one}
 use native.Mathlib.Omega.{arith}
 use borrow.Author.Tests.{eq-eqb, ne-eqb, eqb-true, not-false, not-true}
 use lib.Dec.{eqb}
 use Rattle.lists.specs.Lists.{some}
-use Rattle.lists.proofs.Lists.{Passing, some-holds, some-found, some-fails, or-fails}
+use Rattle.lists.proofs.Lists.{some-holds, some-found, some-fails}
 use Rattle.header.specs.Header.{sections}
 use Rattle.header.proofs.Header.{two-sections}
 use Rattle.kinds.specs.Kinds.{kind, isKind, hasKind, indexIn, indexOf, counted, notOne, oneOfEach}

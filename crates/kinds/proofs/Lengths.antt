@@ -1,14 +1,13 @@
 -- What check 6 leaves of each section: one of each kind, and the length of its kind. Assumes nothing.
-use Prim.Native.Nat.{ℕ, _<_, _+_}
+use Prim.Native.Nat.{ℕ, _<_}
 use mathlib.Core.Path.{_≡_, refl, _∙_, sym, ap}
 use mathlib.Core.Bool.{true, false, not, or-true}
 use mathlib.Core.List.{List}
 use mathlib.Core.Logic.{_⊎_, inl, inr}
 use native.Mathlib.Decide.{ℕ-discrete}
 use native.Mathlib.Omega.{arith}
-use borrow.Author.Tests.{eqb-true, eq-eqb, ne-eqb, not-false}
-use lib.Dec.{eqb, lit<}
-use Rattle.lists.specs.Lists.{some}
+use borrow.Author.Tests.{eqb-true, ne-eqb, not-false}
+use lib.Dec.{eqb}
 use Rattle.lists.proofs.Lists.{or-fails, some-holds, some-fails}
 use Rattle.header.specs.Header.{tasks, sections, size}
 use Rattle.header.proofs.Header.{two-sections}

@@ -1,7 +1,7 @@
 -- Two accepted layouts of bytes with the same task count, and the same kinds in the same order, have the same header: it is four bytes that checks 2 to 4 and the
 -- task count fix, and the places that follow from the lengths of the kinds. And one changed byte does not change the order of the kinds. Assumes nothing.
 use Prim.Native.Nat.{ℕ, zero, suc, _+_, _-_, _*_, _/_, _%_, _≤_, _<_}
-use mathlib.Core.Path.{_≡_, refl, sym, _∙_, ap}
+use mathlib.Core.Path.{_≡_, refl, sym, _∙_}
 use mathlib.Core.Bool.{not}
 use mathlib.Core.List.{List}
 use mathlib.Core.Logic.{_⊎_, inl, inr, _≢_}
@@ -9,7 +9,7 @@ use native.Mathlib.Decide.{ℕ-discrete, decLt}
 use native.Mathlib.Omega.{arith}
 use borrow.Author.Tests.{eqb-true, not-false}
 use lib.Dec.{eqb}
-use lib.ListN.{length, take, drop, set, length-drop}
+use lib.ListN.{length, drop, set, length-drop}
 use lib.Seq.{length-take-le, getD-take, getD-drop, getD-set-other}
 use Rattle.lists.proofs.Lists.{or-fails}
 use Rattle.refusals.specs.Refusals.{first}

@@ -1,16 +1,16 @@
 -- What an accepted sheet is made of. Past 28 its sections stand end to end (`stray-contiguous`), so that what stands before section m is the header and the
 -- sections up to it; before the end of the sheet stand all of them. Assumes nothing.
 use Prim.Native.Nat.{ℕ, zero, suc, _+_, _≤_, _<_}
-use mathlib.Core.Path.{_≡_, refl, sym, _∙_, ap}
+use mathlib.Core.Path.{_≡_, refl, sym, _∙_}
 use mathlib.Core.Bool.{true}
-use mathlib.Core.List.{List, [], _++_, append-assoc, append-nil}
+use mathlib.Core.List.{List, _++_, append-assoc, append-nil}
 use native.Mathlib.Omega.{arith}
 use borrow.Author.Tests.{le-leb, not-false}
 use lib.ListN.{length, take, drop}
 use lib.Seq.{take-all, take-add}
 use Rattle.lists.proofs.Lists.{some-fails}
 use Rattle.refusals.specs.Refusals.{first}
-use Rattle.header.specs.Header.{sections, leastOffset, offset, size, section}
+use Rattle.header.specs.Header.{sections, leastOffset, size, section}
 use Rattle.extents.specs.Extents.{endBefore, covered, strayByte}
 use Rattle.extents.proofs.Extents.{first-start, next-start}
 use Rattle.extents.proofs.Stray.{EndToEnd, end-to-end, last-end}

@@ -6,7 +6,7 @@ use mathlib.Core.Bool.{false, cond}
 use mathlib.Core.List.{List, [], _∷_}
 use native.Mathlib.Omega.{arith}
 use native.Mathlib.Decide.{decLt}
-use borrow.Author.Tests.{lt-ltb, le-ltb, eq-eqb, ne-eqb}
+use borrow.Author.Tests.{lt-ltb, le-ltb, eq-eqb}
 use lib.Dec.{lit<, ltb}
 use lib.ListN.{length, getD, List·getD-eq-default}
 use Rattle.lists.specs.Lists.{some, tabulate}
@@ -22,8 +22,8 @@ use Rattle.job.specs.declared.Job.{Job}
 use Rattle.fields.specs.Bytes.{fieldLength}
 use Rattle.fields.specs.Written.{fieldBytes, fields}
 use Rattle.fields.proofs.Written.{length-fields, field-after, fields-read}
-use Rattle.header.specs.Header.{tasks, tasksMost, sections, offset, size, section, shortestSheet, longestSheet, badLength, badForm, badTasks, badSections}
-use Rattle.extents.specs.Extents.{badExtents, strayByte}
+use Rattle.header.specs.Header.{tasks, tasksMost, sections, offset, size, section, shortestSheet, longestSheet, badLength, badTasks}
+use Rattle.extents.specs.Extents.{strayByte}
 use Rattle.kinds.specs.Kinds.{
   kind,
   platformKind,
@@ -39,7 +39,6 @@ use Rattle.kinds.specs.Kinds.{
   wrongLength,
   badKinds,
 }
-use Rattle.kinds.proofs.Lengths.{weights-long}
 use Rattle.layout.specs.Layout.{layoutConditions}
 use Rattle.sheet.specs.Reading.{sectionField, platformOf, weightsOf, jobOf, readingOf}
 use Rattle.sheet.proofs.Readings.{sheet-goes-on, reading-accepted}

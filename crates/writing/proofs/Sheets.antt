@@ -2,18 +2,18 @@
 -- Assumes nothing.
 use Prim.Native.Nat.{ℕ, zero, suc, _+_, _*_, _≤_, _<_}
 use mathlib.Core.Path.{_≡_, refl, sym, _∙_, ap}
-use mathlib.Core.Bool.{true, false, not}
+use mathlib.Core.Bool.{false}
 use mathlib.Core.List.{List, [], _∷_, _++_}
 use native.Mathlib.Omega.{arith}
 use borrow.Author.Tests.{eq-eqb, ne-eqb, le-ltb}
-use lib.ListN.{length, getD, take, drop, length-append, List·getD-append}
+use lib.ListN.{length, getD, drop, length-append, List·getD-append}
 use lib.Seq.{getD-take, getD-drop}
 use Rattle.lists.proofs.Lists.{some-none}
 use Rattle.fields.specs.Bytes.{byteAt, fieldAt, fieldLength}
 use Rattle.fields.specs.Written.{fields}
 use Rattle.fields.proofs.Bytes.{field-agrees}
 use Rattle.fields.proofs.Written.{length-fields, field-after, fields-read}
-use Rattle.header.specs.Header.{form, sections, pairsStart, pairLength, leastOffset, offset, size, section, badForm, badSections, tasks}
+use Rattle.header.specs.Header.{form, sections, pairsStart, pairLength, offset, size, section, badForm, badSections, tasks}
 use Rattle.extents.specs.Extents.{endBefore, badExtent, badExtents, strayByte, apart, contiguous}
 use Rattle.extents.proofs.Extents.{first-start, next-start}
 use Rattle.extents.proofs.Stray.{stray-contiguous}

@@ -1,6 +1,6 @@
 -- Runs of stores: one pair more of a list of pairs, and the parts of a sheet, which are the sheet. Assumes nothing.
 use Prim.Native.Nat.{ℕ, zero, suc, _+_, _*_, _^_, _≤_, _<_}
-use mathlib.Core.Path.{_≡_, refl, sym, _∙_}
+use mathlib.Core.Path.{_≡_, refl}
 use mathlib.Core.List.{List, [], _∷_, _++_, append-nil, append-assoc}
 use native.Mathlib.Nat.{zero-add}
 use native.Mathlib.Omega.{arith}
@@ -14,7 +14,7 @@ use Rattle.fields.specs.Written.{fieldBytes, fields}
 use Rattle.fields.proofs.Written.{length-fields, fields-append}
 use Rattle.fields.proofs.Stores.{sets-append}
 use Rattle.header.specs.Header.{pairLength}
-use Rattle.kinds.specs.Kinds.{platformKind, weightsKind, platformLength, weightsLength}
+use Rattle.kinds.specs.Kinds.{platformLength, weightsLength}
 use Rattle.writing.specs.Form.{pairs, header, platformStart, weightsStart, platformFields, platformSection, weightsSection, formOne, lengths, together, formOf, written}
 use Rattle.writing.specs.Working.Ready.{ReadyForHeader}
 use Rattle.writing.specs.Working.Starts.{startIn}

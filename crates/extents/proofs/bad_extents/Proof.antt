@@ -1,6 +1,6 @@
 -- `extents::bad_extents` meets its contract. The loop's invariant: no section passed is misplaced. The measure is what is left of them. Assumes nothing.
-use Prim.Native.Nat.{_-_, _≤_}
-use mathlib.Core.Path.{_≡_, sym, _∙_}
+use Prim.Native.Nat.{_-_}
+use mathlib.Core.Path.{sym, _∙_}
 use native.Mathlib.Omega.{arith}
 use Rattle.header.proofs.Loop.{NoneYet, none-start, none-more, some-at, none-left}
 use Rattle.extents.specs.Extents.{badExtent, badExtents}

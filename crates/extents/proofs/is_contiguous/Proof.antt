@@ -1,6 +1,6 @@
 -- `extents::is_contiguous` meets its contract. The loop's invariant: each section passed follows on what stands before it. The measure is what is left of them. Assumes nothing.
-use Prim.Native.Nat.{_-_, _≤_}
-use mathlib.Core.Path.{_≡_, ap}
+use Prim.Native.Nat.{_-_}
+use mathlib.Core.Path.{ap}
 use mathlib.Core.Bool.{not}
 use borrow.Author.Tests.{eq-eqb}
 use native.Mathlib.Omega.{arith}

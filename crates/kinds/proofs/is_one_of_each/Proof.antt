@@ -3,7 +3,7 @@ use Prim.Native.Nat.{_-_}
 use mathlib.Core.Path.{ap}
 use mathlib.Core.Bool.{not}
 use native.Mathlib.Omega.{arith}
-use borrow.Author.Tests.{eq-eqb, ne-eqb}
+use borrow.Author.Tests.{eq-eqb}
 use Rattle.header.proofs.Loop.{NoneYet, none-start, none-more, none-left}
 use Rattle.kinds.specs.Kinds.{notOne, oneOfEach}
 use Rattle.kinds.proofs.Indices.{not-one-of-each}

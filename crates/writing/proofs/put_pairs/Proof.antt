@@ -14,7 +14,6 @@ use Rattle.writing.specs.Working.Ready.{ReadyForPairs}
 use Rattle.writing.specs.Working.Starts.{startIn}
 use Rattle.writing.proofs.Starts.{length-pairs, start-first, start-next, pair-start, pair-size}
 use Rattle.writing.proofs.Stores.{pairs-more}
-use borrow.Author.Needs.{needs}
 use Rattle.writing.proofs.put_pairs.Statement.{statement}
 use Rattle.writing.proofs.put_pairs.Tie as tie
 
