@@ -1,9 +1,8 @@
 -- A step by its answers: one law for each refusal, in their order, and one for the place that is left. Assumes nothing.
-use Prim.Native.Nat.{ℕ}
 use mathlib.Core.Path.{_≡_, refl}
 use mathlib.Core.Bool.{Bool, true, false, _&&_, cond}
 use native.Mathlib.Omega.{arith}
-use borrow.Author.Tests.{eqb-false}
+use borrow.Author.Tests.{eqb-false, eq-eqb, ne-eqb}
 use lib.Dec.{eqb}
 use Rattle.refusals.specs.Numbers
 use Rattle.refusals.specs.Refusals.{first}
@@ -14,7 +13,6 @@ use Rattle.events.specs.Working.Ready.{TaskRuns}
 use Rattle.state.specs.declared.Place.{Place}
 use Rattle.state.specs.declared.Run.{Run}
 use Rattle.events.specs.declared.Event.{Event}
-use Rattle.events.specs.declared.Event.the-variants.{Done, Stopped}
 use Rattle.rules.proofs.Soundness.{run-sound}
 
 module _ (run : Run) (event : Event) where
@@ -59,11 +57,9 @@ task-runs run ready a =
     go true e = e
     go false e = e
 
--- as at Done and Stopped in their turn
-pub done-runs : (run : Run) → ReadyForWeight run Done → TaskRuns run
-unfolding outOfTurn
-done-runs run ready = task-runs run (ready .state) (ready .turn)
+-- the byte that says whether a verification is awaited
+pub awaits-some : (place : Place) → (place .awaiting ≡ 0 → ⊥) → awaits place ≡ true
+awaits-some place h = rw (ne-eqb _ _ h)
 
-pub stopped-runs : (run : Run) (lost : ℕ) → ReadyForWeight run (Stopped lost) → TaskRuns run
-unfolding outOfTurn
-stopped-runs run lost ready = task-runs run (ready .state) (ready .turn)
+pub awaits-none : (place : Place) → place .awaiting ≡ 0 → awaits place ≡ false
+awaits-none place h = rw (eq-eqb _ _ h)

@@ -3,8 +3,8 @@ ghost use mathlib.Core.Path.{_≡_};
 ghost use mathlib.Core.Bool.{cond};
 ghost use Rattle.refusals.specs.Numbers;
 ghost use Rattle.rules.specs.Rules.{overTotal};
-ghost use Rattle.following.specs.Run.{outOfTurn, overWeight, standing, accepted, refused, stepOf};
-ghost use Rattle.following.specs.Working.Ready.{ReadyForWeight};
+ghost use Rattle.following.specs.Run.{standing, accepted, refused, stepOf};
+ghost use Rattle.following.specs.Working.Ready.{ReadyForEvent};
 use events::Event;
 use events::after_done;
 use events::after_failed;
@@ -46,31 +46,6 @@ pub fn refused(number: u64, run: Run) -> Stepped
     Stepped { number, run }
 }
 
-// 23: out of turn: Done or Stopped while a verification is awaited, Passed or Failed otherwise.
-fn out_of_turn(awaiting: bool, event: Event) -> bool
-    ensures { λ r. ⌜ r ≡ outOfTurn awaiting event ⌝ }
-{
-    match event {
-        Event::Done => awaiting,
-        Event::Passed => !awaiting,
-        Event::Failed => !awaiting,
-        Event::Stopped(_) => awaiting,
-    }
-}
-
-// 24: lost ticks above the running task's weight. `step` has tested 21 to 23, so that a task is running where there are lost ticks.
-fn over_weight(run: Run, event: Event) -> bool
-    requires { ⌜ ReadyForWeight run event ⌝ }
-    ensures { λ r. ⌜ r ≡ overWeight run event ⌝ }
-{
-    match event {
-        Event::Done => false,
-        Event::Passed => false,
-        Event::Failed => false,
-        Event::Stopped(lost) => weight_at(run.job, run.place.position) < wide(lost),
-    }
-}
-
 // The run at its next place, unless the new total would pass the limit.
 fn arrived(run: Run, next: Place) -> Stepped
     ensures { λ r. ⌜ r ≡ cond (overTotal (next .sums)) (refused Numbers.overTotal run) (accepted (standing run next)) ⌝ }
@@ -83,6 +58,54 @@ fn arrived(run: Run, next: Place) -> Stepped
     accepted(moved)
 }
 
+// Done. `step` has tested 21 and 22, so that no place or sum here passes its range; the same holds for the three below.
+fn done(run: Run) -> Stepped
+    requires { ⌜ ReadyForEvent run ⌝ }
+    ensures { λ r. ⌜ r ≡ stepOf run Event.Done ⌝ }
+{
+    if run.place.awaiting != 0 {
+        return refused(OUT_OF_TURN, run);
+    }
+    arrived(run, after_done(run))
+}
+
+// Passed.
+fn passed(run: Run) -> Stepped
+    requires { ⌜ ReadyForEvent run ⌝ }
+    ensures { λ r. ⌜ r ≡ stepOf run Event.Passed ⌝ }
+{
+    if run.place.awaiting == 0 {
+        return refused(OUT_OF_TURN, run);
+    }
+    arrived(run, after_passed(run))
+}
+
+// Failed.
+fn failed(run: Run) -> Stepped
+    requires { ⌜ ReadyForEvent run ⌝ }
+    ensures { λ r. ⌜ r ≡ stepOf run Event.Failed ⌝ }
+{
+    if run.place.awaiting == 0 {
+        return refused(OUT_OF_TURN, run);
+    }
+    arrived(run, after_failed(run))
+}
+
+// Stopped.
+fn stopped(run: Run, lost: u32) -> Stepped
+    requires { ⌜ ReadyForEvent run ⌝ }
+    ensures { λ r. ⌜ r ≡ stepOf run (Event.Stopped lost) ⌝ }
+{
+    if run.place.awaiting != 0 {
+        return refused(OUT_OF_TURN, run);
+    }
+    let p = run.place.position;
+    if weight_at(run.job, p) < wide(lost) {
+        return refused(OVER_WEIGHT, run);
+    }
+    arrived(run, after_stopped(run, lost))
+}
+
 // One event: the next state, or the first refusal among 21 to 25 and the state unchanged.
 pub fn step(run: Run, event: Event) -> Stepped
     ensures { λ r. ⌜ r ≡ stepOf run event ⌝ }
@@ -93,16 +116,10 @@ pub fn step(run: Run, event: Event) -> Stepped
     if finished(run) {
         return refused(FINISHED, run);
     }
-    if out_of_turn(run.place.awaiting != 0, event) {
-        return refused(OUT_OF_TURN, run);
-    }
-    if over_weight(run, event) {
-        return refused(OVER_WEIGHT, run);
-    }
     match event {
-        Event::Done => arrived(run, after_done(run)),
-        Event::Passed => arrived(run, after_passed(run)),
-        Event::Failed => arrived(run, after_failed(run)),
-        Event::Stopped(lost) => arrived(run, after_stopped(run, lost)),
+        Event::Done => done(run),
+        Event::Passed => passed(run),
+        Event::Failed => failed(run),
+        Event::Stopped(lost) => stopped(run, lost),
     }
 }
