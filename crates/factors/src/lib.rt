@@ -33,7 +33,7 @@ pub fn stretch_factors(p: Platform, weight: u64, v: u64) -> Factors
     energy_factors(Powers::plain(), p, weight, v)
 }
 
-// The factors in energy of a stretch that is allowed. Of any other only `both` is read, which is 0: no growth sum is worked out. Planning calls this, for a job and
+// The factors in energy of a stretch that is allowed. Of any other only `both` is read, which is 0: no growth sum is worked out. The filling calls this, for a job and
 // powers that have passed checks 7 and 29.
 pub fn factors_if_allowed(powers: Powers, p: Platform, weight: u64, v: u64) -> Factors
     requires { ⌜ ReadyForEnergy powers weight v ⌝ }

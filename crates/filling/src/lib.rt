@@ -69,7 +69,7 @@ fn fill_costs(t: &mut [u32], powers: Powers, job: Job)
     }
 }
 
-// The chain of the job in energy. Planning alone calls this, with a table of the search's length and a job that has passed checks 3, 7 and 8 and whose products
+// The chain of the job in energy. Planning alone calls this, with a table that is long enough and a job that has passed checks 3, 7 and 8 and whose products
 // with the powers fit.
 pub fn fill(t: &mut [u32], powers: Powers, job: Job)
     requires { ⌜ ReadyToFill powers job (now t) ⌝ }

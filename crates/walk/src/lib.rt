@@ -1,5 +1,5 @@
 // The marks of the plan, by walking back from the last task over the earliest positions before. The disk row is what the search has found; the rows of the
-// other levels are filled anew, cut where the plan leaves no room, from each disk copy of the plan and each memory copy of it. Planning calls `plan_marks`, with the
+// other levels are filled anew, cut where the plan leaves no room, from each disk copy of the plan and each memory copy of it. The search calls `plan_marks`, with the
 // row that `find` gave and a least time below none: there are no other marks to find.
 ghost use Rattle.units.specs.Limits.{none};
 ghost use Rattle.chain.specs.Time.{disk};
