@@ -61,10 +61,14 @@ fn fill_costs(t: &mut [u32], powers: Powers, job: Job)
     let n = job.tasks;
     let mut v: usize = 0;
     while v <= n {
-        put_in_column(t, CM_START, v, powers.saving * cm_at(job, v));
-        put_in_column(t, CD_START, v, powers.saving * cd_at(job, v));
-        put_in_column(t, RD_START, v, powers.saving * rd_at(job, v));
-        put_in_column(t, RM_START, v, powers.saving * rm_at(job, v));
+        let cm = powers.saving * cm_at(job, v);
+        let cd = powers.saving * cd_at(job, v);
+        let rd = powers.saving * rd_at(job, v);
+        let rm = powers.saving * rm_at(job, v);
+        put_in_column(t, CM_START, v, cm);
+        put_in_column(t, CD_START, v, cd);
+        put_in_column(t, RD_START, v, rd);
+        put_in_column(t, RM_START, v, rm);
         v += 1;
     }
 }

@@ -31,93 +31,93 @@ loop-holds c =
 
 cm-at-requires : tie.Need-cm-at-requires Inv-loop μ-loop
 cm-at-requires c κs =
-    let pre = c .before .before .before .before .pre in
+    let pre = c .before .before .before .pre in
     omega (arith, pre .sound .few-tasks)
 
-mul-put-in-column : tie.Need-mul-put-in-column Inv-loop μ-loop
-mul-put-in-column c =
-    let pre = c .before .before .before .before .before .before .pre in
-    let loop = c .before .before .before .before .loop in
+mul-cm : tie.Need-mul-cm Inv-loop μ-loop
+mul-cm c =
+    let pre = c .before .before .before .before .before .pre in
+    let loop = c .before .before .before .loop in
     let cm-at = c .before .cm-at in
     record { fits = rw (cm-at .ensures .value) (omega (arith, cm-energy _ _ (pre .products) (loop .v))) }
 
+cd-at-requires : tie.Need-cd-at-requires Inv-loop μ-loop
+cd-at-requires c κs =
+    let pre = c .before .before .before .before .before .pre in
+    omega (arith, pre .sound .few-tasks)
+
+mul-cd : tie.Need-mul-cd Inv-loop μ-loop
+mul-cd c =
+    let pre = c .before .before .before .before .before .before .before .pre in
+    let loop = c .before .before .before .before .before .loop in
+    let cd-at = c .before .cd-at in
+    record { fits = rw (cd-at .ensures .value) (omega (arith, cd-energy _ _ (pre .products) (loop .v))) }
+
+rd-at-requires : tie.Need-rd-at-requires Inv-loop μ-loop
+rd-at-requires c κs =
+    let pre = c .before .before .before .before .before .before .before .pre in
+    omega (arith, pre .sound .few-tasks)
+
+mul-rd : tie.Need-mul-rd Inv-loop μ-loop
+mul-rd c =
+    let pre = c .before .before .before .before .before .before .before .before .before .pre in
+    let loop = c .before .before .before .before .before .before .before .loop in
+    let rd-at = c .before .rd-at in
+    record { fits = rw (rd-at .ensures .value) (omega (arith, rd-energy _ _ (pre .products) (loop .v))) }
+
+rm-at-requires : tie.Need-rm-at-requires Inv-loop μ-loop
+rm-at-requires c κs =
+    let pre = c .before .before .before .before .before .before .before .before .before .pre in
+    omega (arith, pre .sound .few-tasks)
+
+mul-rm : tie.Need-mul-rm Inv-loop μ-loop
+mul-rm c =
+    let pre = c .before .before .before .before .before .before .before .before .before .before .before .pre in
+    let loop = c .before .before .before .before .before .before .before .before .before .loop in
+    let rm-at = c .before .rm-at in
+    record { fits = rw (rm-at .ensures .value) (omega (arith, rm-energy _ _ (pre .products) (loop .v))) }
+
 put-in-column-requires : tie.Need-put-in-column-requires Inv-loop μ-loop
 put-in-column-requires c κs =
-    let pre = c .before .before .before .before .before .before .pre in
-    let loop = c .before .before .before .before .loop in
-    let cm-at = c .before .cm-at in
+    let pre = c .before .before .before .before .before .before .before .before .before .before .before .before .pre in
+    let loop = c .before .before .before .before .before .before .before .before .before .before .loop in
+    let cm-at = c .before .before .before .before .before .before .before .before .cm-at in
     record {
       place = record { long = omega (arith, loop .inv .table .long); few = omega (arith, pre .sound .few-tasks) };
       range = rw (cm-at .ensures .value) (omega (arith, cm-energy _ _ (pre .products) (loop .v)));
     }
 
-cd-at-requires : tie.Need-cd-at-requires Inv-loop μ-loop
-cd-at-requires c κs =
-    let pre = c .before .before .before .before .before .before .before .before .before .before .pre in
-    omega (arith, pre .sound .few-tasks)
-
-mul-put-in-column-2 : tie.Need-mul-put-in-column-2 Inv-loop μ-loop
-mul-put-in-column-2 c =
-    let pre = c .before .before .before .before .before .before .before .before .before .before .before .before .pre in
-    let loop = c .before .before .before .before .before .before .before .before .before .before .loop in
-    let cd-at = c .before .cd-at in
-    record { fits = rw (cd-at .ensures .value) (omega (arith, cd-energy _ _ (pre .products) (loop .v))) }
-
 put-in-column-requires-2 : tie.Need-put-in-column-requires-2 Inv-loop μ-loop
 put-in-column-requires-2 c κs =
-    let pre = c .before .before .before .before .before .before .before .before .before .before .before .before .pre in
-    let loop = c .before .before .before .before .before .before .before .before .before .before .loop in
-    let cd-at = c .before .cd-at in
-    let t = c .before .before .before .before .t in
+    let pre = c .before .before .before .before .before .before .before .before .before .before .before .before .before .before .before .before .pre in
+    let loop = c .before .before .before .before .before .before .before .before .before .before .before .before .before .before .loop in
+    let cd-at = c .before .before .before .before .before .before .before .before .before .before .cd-at in
+    let t = c .before .before .t in
     record {
       place = record { long = omega (arith, loop .inv .table .long, t .given); few = omega (arith, pre .sound .few-tasks) };
       range = rw (cd-at .ensures .value) (omega (arith, cd-energy _ _ (pre .products) (loop .v)));
     }
 
-rd-at-requires : tie.Need-rd-at-requires Inv-loop μ-loop
-rd-at-requires c κs =
-    let pre = c .before .before .before .before .before .before .before .before .before .before .before .before .before .before .before .before .pre in
-    omega (arith, pre .sound .few-tasks)
-
-mul-put-in-column-3 : tie.Need-mul-put-in-column-3 Inv-loop μ-loop
-mul-put-in-column-3 c =
-    let pre = c .before .before .before .before .before .before .before .before .before .before .before .before .before .before .before .before .before .before .pre in
-    let loop = c .before .before .before .before .before .before .before .before .before .before .before .before .before .before .before .before .loop in
-    let rd-at = c .before .rd-at in
-    record { fits = rw (rd-at .ensures .value) (omega (arith, rd-energy _ _ (pre .products) (loop .v))) }
-
 put-in-column-requires-3 : tie.Need-put-in-column-requires-3 Inv-loop μ-loop
 put-in-column-requires-3 c κs =
-    let pre = c .before .before .before .before .before .before .before .before .before .before .before .before .before .before .before .before .before .before .pre in
-    let loop = c .before .before .before .before .before .before .before .before .before .before .before .before .before .before .before .before .loop in
-    let rd-at = c .before .rd-at in
-    let t = c .before .before .before .before .before .before .before .before .before .before .t in
-    let t2 = c .before .before .before .before .t2 in
+    let pre = c .before .before .before .before .before .before .before .before .before .before .before .before .before .before .before .before .before .before .before .before .pre in
+    let loop = c .before .before .before .before .before .before .before .before .before .before .before .before .before .before .before .before .before .before .loop in
+    let rd-at = c .before .before .before .before .before .before .before .before .before .before .before .before .rd-at in
+    let t = c .before .before .before .before .before .before .t in
+    let t2 = c .before .before .t2 in
     record {
       place = record { long = omega (arith, loop .inv .table .long, t .given, t2 .given); few = omega (arith, pre .sound .few-tasks) };
       range = rw (rd-at .ensures .value) (omega (arith, rd-energy _ _ (pre .products) (loop .v)));
     }
 
-rm-at-requires : tie.Need-rm-at-requires Inv-loop μ-loop
-rm-at-requires c κs =
-    let pre = c .before .before .before .before .before .before .before .before .before .before .before .before .before .before .before .before .before .before .before .before .before .before .pre in
-    omega (arith, pre .sound .few-tasks)
-
-mul-put-in-column-4 : tie.Need-mul-put-in-column-4 Inv-loop μ-loop
-mul-put-in-column-4 c =
-    let pre = c .before .before .before .before .before .before .before .before .before .before .before .before .before .before .before .before .before .before .before .before .before .before .before .before .pre in
-    let loop = c .before .before .before .before .before .before .before .before .before .before .before .before .before .before .before .before .before .before .before .before .before .before .loop in
-    let rm-at = c .before .rm-at in
-    record { fits = rw (rm-at .ensures .value) (omega (arith, rm-energy _ _ (pre .products) (loop .v))) }
-
 put-in-column-requires-4 : tie.Need-put-in-column-requires-4 Inv-loop μ-loop
 put-in-column-requires-4 c κs =
     let pre = c .before .before .before .before .before .before .before .before .before .before .before .before .before .before .before .before .before .before .before .before .before .before .before .before .pre in
     let loop = c .before .before .before .before .before .before .before .before .before .before .before .before .before .before .before .before .before .before .before .before .before .before .loop in
-    let rm-at = c .before .rm-at in
-    let t = c .before .before .before .before .before .before .before .before .before .before .before .before .before .before .before .before .t in
-    let t2 = c .before .before .before .before .before .before .before .before .before .before .t2 in
-    let t3 = c .before .before .before .before .t3 in
+    let rm-at = c .before .before .before .before .before .before .before .before .before .before .before .before .before .before .rm-at in
+    let t = c .before .before .before .before .before .before .before .before .before .before .t in
+    let t2 = c .before .before .before .before .before .before .t2 in
+    let t3 = c .before .before .t3 in
     record {
       place = record { long = omega (arith, loop .inv .table .long, t .given, t2 .given, t3 .given); few = omega (arith, pre .sound .few-tasks) };
       range = rw (rm-at .ensures .value) (omega (arith, rm-energy _ _ (pre .products) (loop .v)));
@@ -137,18 +137,18 @@ loop-again c =
     let args = c .before .before .before .before .before .before .before .before .before .before .before .before .before .before .before .before .before .before .before .before .before .before .before .before .before .before .before .args in
     let loop = c .before .before .before .before .before .before .before .before .before .before .before .before .before .before .before .before .before .before .before .before .before .before .before .before .before .loop in
     let pre = c .before .before .before .before .before .before .before .before .before .before .before .before .before .before .before .before .before .before .before .before .before .before .before .before .before .before .before .pre in
-    let cm-at = c .before .before .before .before .before .before .before .before .before .before .before .before .before .before .before .before .before .before .before .before .before .before .cm-at in
-    let cd-at = c .before .before .before .before .before .before .before .before .before .before .before .before .before .before .before .before .cd-at in
-    let rd-at = c .before .before .before .before .before .before .before .before .before .before .rd-at in
-    let rm-at = c .before .before .before .before .rm-at in
-    let put-in-column = c .before .before .before .before .before .before .before .before .before .before .before .before .before .before .before .before .before .before .before .before .put-in-column in
-    let put-in-column2 = c .before .before .before .before .before .before .before .before .before .before .before .before .before .before .put-in-column2 in
-    let put-in-column3 = c .before .before .before .before .before .before .before .before .put-in-column3 in
+    let cm-at = c .before .before .before .before .before .before .before .before .before .before .before .before .before .before .before .before .before .before .before .before .before .before .before .cm-at in
+    let cd-at = c .before .before .before .before .before .before .before .before .before .before .before .before .before .before .before .before .before .before .before .before .before .cd-at in
+    let rd-at = c .before .before .before .before .before .before .before .before .before .before .before .before .before .before .before .before .before .before .before .rd-at in
+    let rm-at = c .before .before .before .before .before .before .before .before .before .before .before .before .before .before .before .before .before .rm-at in
+    let put-in-column = c .before .before .before .before .before .before .before .before .before .before .before .before .before .before .put-in-column in
+    let put-in-column2 = c .before .before .before .before .before .before .before .before .before .before .put-in-column2 in
+    let put-in-column3 = c .before .before .before .before .before .before .put-in-column3 in
     let put-in-column4 = c .before .before .put-in-column4 in
     let t4 = c .before .t4 in
-    let t3 = c .before .before .before .before .before .before .before .t3 in
-    let t2 = c .before .before .before .before .before .before .before .before .before .before .before .before .before .t2 in
-    let t = c .before .before .before .before .before .before .before .before .before .before .before .before .before .before .before .before .before .before .before .t in
+    let t3 = c .before .before .before .before .before .t3 in
+    let t2 = c .before .before .before .before .before .before .before .before .before .t2 in
+    let t = c .before .before .before .before .before .before .before .before .before .before .before .before .before .t in
     let table = table-more (args .powers) (args .job) (loop .v) (loop .t) (loop .inv .table) (omega (arith, pre .sound .few-tasks)) (omega (arith, loop-test .taken)) in
     record {
       within = omega (arith, loop-test .taken);
@@ -177,16 +177,16 @@ fill-costs-spec =
     μ-loop
     loop-holds
     cm-at-requires
-    mul-put-in-column
-    put-in-column-requires
+    mul-cm
     cd-at-requires
-    mul-put-in-column-2
-    put-in-column-requires-2
+    mul-cd
     rd-at-requires
-    mul-put-in-column-3
-    put-in-column-requires-3
+    mul-rd
     rm-at-requires
-    mul-put-in-column-4
+    mul-rm
+    put-in-column-requires
+    put-in-column-requires-2
+    put-in-column-requires-3
     put-in-column-requires-4
     add-v
     loop-less
