@@ -1,12 +1,11 @@
 // Weights as ticks, and their totals.
-ghost use mathlib.Core.Path.{_≡_};
-ghost use Prim.Native.Nat.{_*_, _≤_, _<_, _^_};
+ghost use Prim.Native.Nat.{_≤_};
 ghost use Rattle.units.specs.Limits.{taskLimit};
-ghost use Rattle.job.specs.Job.{total};
+ghost use Rattle.job.specs.Working.Sound.{Widened, WeightTo};
 use units::TASK_LIMIT;
 
 pub fn wide(x: u32) -> u64
-    ensures { λ r. ⌜ (r ≡ x) × (r < 2 ^ 32) ⌝ }
+    ensures { λ r. ⌜ Widened x r ⌝ }
 {
     x as u64
 }
@@ -15,7 +14,7 @@ pub fn wide(x: u32) -> u64
 // has passed check 3, which is a place of the array.
 pub fn weight_to(weights: [u32; TASK_LIMIT], n: usize) -> u64
     requires { ⌜ n ≤ taskLimit ⌝ }
-    ensures { λ r. ⌜ (r ≡ total weights n) × (r ≤ taskLimit * 2 ^ 32) ⌝ }
+    ensures { λ r. ⌜ WeightTo weights n r ⌝ }
 {
     let mut sum: u64 = 0;
     let mut j: usize = 0;

@@ -22,7 +22,7 @@ sub-w : tie.Need-sub-w
 sub-w c =
     let args = c .before .before .before .args in
     let pre = c .before .before .before .pre in
-    rw (c .weight-to2 .ensures .0, c .before .weight-to .ensures .0) (total-mono (args .job .weights) (args .v1) (args .v2) (omega (arith, pre .order)))
+    rw (c .weight-to2 .ensures .value, c .before .weight-to .ensures .value) (total-mono (args .job .weights) (args .v1) (args .v2) (omega (arith, pre .order)))
 
 v-at-requires : tie.Need-v-at-requires
 v-at-requires c κs =
@@ -34,13 +34,13 @@ unfolding between
 stretch-factors-requires c κs =
     let args = c .before .before .before .before .args in
     let pre = c .before .before .before .before .pre in
-    rw (c .before .before .weight-to .ensures .0, c .before .weight-to2 .ensures .0, c .v-at .ensures .value)
+    rw (c .before .before .weight-to .ensures .value, c .before .weight-to2 .ensures .value, c .v-at .ensures .value)
     (factors-ready (args .job) (pre .sound) (args .v1) (args .v2) (pre .end))
 
 returns : tie.Need-returns
 unfolding between
 returns c =
-    c .stretch-factors .ensures ∙ rw (c .before .before .before .weight-to .ensures .0, c .before .before .weight-to2 .ensures .0, c .before .v-at .ensures .value)
+    c .stretch-factors .ensures ∙ rw (c .before .before .before .weight-to .ensures .value, c .before .before .weight-to2 .ensures .value, c .before .v-at .ensures .value)
 
 pub growths-spec : {M : Type 1} → statement M
 growths-spec =

@@ -26,7 +26,7 @@ unfolding totalOf
 add-sums c =
     let wide = c .before .wide in
     let pre = c .before .before .before .before .before .pre in
-    omega (arith, wide .ensures .1, pre .sound .sums)
+    omega (arith, wide .ensures .range, pre .sound .sums)
 
 rd-at-requires : tie.Need-rd-at-requires
 rd-at-requires c κs =
@@ -51,7 +51,7 @@ back-to-requires c κs =
     record {
       within = rw copy (le-trans (last-up-to _ _ _) (position-range (pre .sound)));
       kept = rw (pre .sound .kept, copy) (total-mono _ _ _ (last-up-to _ _ _));
-      fits = omega (arith, wide .ensures .1, pre .sound .sums);
+      fits = omega (arith, wide .ensures .range, pre .sound .sums);
     }
 
 returns : tie.Need-returns
@@ -62,7 +62,7 @@ returns c =
     let rd-at = c .before .before .rd-at in
     let last-copy = c .before .before .before .before .before .before .last-copy in
     let pre = c .before .before .before .before .before .before .before .before .pre in
-    rw (back-to .ensures, wide .ensures .0, rd-at .ensures .value, last-copy .ensures, ← (pre .sound .kept), add-one)
+    rw (back-to .ensures, wide .ensures .value, rd-at .ensures .value, last-copy .ensures, ← (pre .sound .kept), add-one)
 
 pub after-stopped-spec : {M : Type 1} → statement M
 after-stopped-spec =

@@ -18,7 +18,7 @@ add-moved c = search needs
 returns : tie.Need-returns
 returns c =
     let weight-to = c .before .before .before .weight-to in
-    rw (weight-to .ensures .0)
+    rw (weight-to .ensures .value)
 
 pub back-to-spec : {M : Type 1} → statement M
 back-to-spec = tie.close (tie.spec weight-to-requires sub-ticks sub-moved add-moved returns)

@@ -46,7 +46,7 @@ returns-2 c =
     let wide = c .before .before .wide in
     let if2 = c .before .if2 in
     refused2 .ensures
-    ∙ step-over-weight (args .run) (Stopped (args .lost)) (record { state = pre; turn = awaits-none (args .run .place) (if1 .left) }) (rw (← (weight-at .ensures .value), ← (wide .ensures .0)) (lt-ltb _ _ (if2 .taken)))
+    ∙ step-over-weight (args .run) (Stopped (args .lost)) (record { state = pre; turn = awaits-none (args .run .place) (if1 .left) }) (rw (← (weight-at .ensures .value), ← (wide .ensures .value)) (lt-ltb _ _ (if2 .taken)))
 
 after-stopped-requires : tie.Need-after-stopped-requires
 after-stopped-requires c κs =
@@ -70,7 +70,7 @@ returns-3 c =
     let if2 = c .before .before .if2 in
     let after-stopped = c .before .after-stopped in
     arrived .ensures
-    ∙ step-arrives (args .run) (Stopped (args .lost)) (record { state = pre; turn = awaits-none (args .run .place) (if1 .left) }) (rw (← (weight-at .ensures .value), ← (wide .ensures .0)) (le-ltb _ _ (if2 .left))) (after-stopped .result) (after-stopped .ensures)
+    ∙ step-arrives (args .run) (Stopped (args .lost)) (record { state = pre; turn = awaits-none (args .run .place) (if1 .left) }) (rw (← (weight-at .ensures .value), ← (wide .ensures .value)) (le-ltb _ _ (if2 .left))) (after-stopped .result) (after-stopped .ensures)
 
 pub stopped-spec : {M : Type 1} → statement M
 stopped-spec =

@@ -38,14 +38,14 @@ returns-3 : tie.Need-returns-3
 returns-3 c =
     let ready = c .before .before .before in
     let is-same = ready .before .before .before .before .before .before .before .is-same in
-    let sum = total-taken (ready .before .before .weight-to .ensures .0) (ready .before .weight-to2 .ensures .0) in
+    let sum = total-taken (ready .before .before .weight-to .ensures .value) (ready .before .weight-to2 .ensures .value) in
     both-heavy _ _ _ (is-same .ensures) (c .before .before .if1 .left) (c .before .if2 .left) sum (c .if3 .taken)
 
 returns-4 : tie.Need-returns-4
 returns-4 c =
     let ready = c .before .before .before .before in
     let is-same = ready .before .before .before .before .before .before .before .is-same in
-    let sum = total-taken (ready .before .before .weight-to .ensures .0) (ready .before .weight-to2 .ensures .0) in
+    let sum = total-taken (ready .before .before .weight-to .ensures .value) (ready .before .weight-to2 .ensures .value) in
     let pre = ready .before .before .before .before .before .before .before .before .pre in
     let size = length-taken _ _ pre (ready .sheet-length .ensures) in
     both-short _ _ _ (is-same .ensures) (c .before .before .before .if1 .left) (c .before .before .if2 .left) sum (c .before .if3 .left) size (c .if4 .taken)
@@ -54,7 +54,7 @@ returns-5 : tie.Need-returns-5
 returns-5 c =
     let ready = c .before .before .before .before in
     let is-same = ready .before .before .before .before .before .before .before .is-same in
-    let sum = total-taken (ready .before .before .weight-to .ensures .0) (ready .before .weight-to2 .ensures .0) in
+    let sum = total-taken (ready .before .before .weight-to .ensures .value) (ready .before .weight-to2 .ensures .value) in
     let pre = ready .before .before .before .before .before .before .before .before .pre in
     let size = length-taken _ _ pre (ready .sheet-length .ensures) in
     both-joined _ _ _ (is-same .ensures) (c .before .before .before .if1 .left) (c .before .before .if2 .left) sum (c .before .if3 .left) size (c .if4 .left)

@@ -21,7 +21,7 @@ passes-requires : tie.Need-passes-requires
 passes-requires c κs =
     let out-of-range = c .before .before .before .out-of-range in
     let if1 = c .before .before .if1 in
-    product-ready (out-of-range .ensures) (if1 .left) (c .weight-to .ensures .1)
+    product-ready (out-of-range .ensures) (if1 .left) (c .weight-to .ensures .range)
 
 returns-2 : tie.Need-returns-2
 unfolding badComputing
@@ -30,7 +30,7 @@ returns-2 c =
     let if1 = c .before .before .before .before .if1 in
     let weight-to = c .before .before .weight-to in
     let passes = c .before .passes in
-    rw (← (out-of-range .ensures), if1 .left, ← (weight-to .ensures .0), ← (passes .ensures), c .if2 .taken)
+    rw (← (out-of-range .ensures), if1 .left, ← (weight-to .ensures .value), ← (passes .ensures), c .if2 .taken)
 
 wide-requires : tie.Need-wide-requires
 wide-requires c κs = search needs
@@ -39,7 +39,7 @@ passes-requires-2 : tie.Need-passes-requires-2
 passes-requires-2 c κs =
     let out-of-range = c .before .before .before .before .before .before .out-of-range in
     let if1 = c .before .before .before .before .before .if1 in
-    product-ready (out-of-range .ensures) (if1 .left) (omega (arith, c .wide .ensures .1))
+    product-ready (out-of-range .ensures) (if1 .left) (omega (arith, c .wide .ensures .range))
 
 returns-3 : tie.Need-returns-3
 unfolding badComputing
@@ -53,10 +53,10 @@ returns-3 c =
     rw (
       ← (out-of-range .ensures),
       if1 .left,
-      ← (weight-to .ensures .0),
+      ← (weight-to .ensures .value),
       ← (passes .ensures),
       if2 .left,
-      ← (wide .ensures .0),
+      ← (wide .ensures .value),
       ← (c .passes2 .ensures),
     )
 

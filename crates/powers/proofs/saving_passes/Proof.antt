@@ -42,7 +42,7 @@ passes-requires : tie.Need-passes-requires Inv-loop μ-loop
 passes-requires c κs =
     let pre = c .before .before .before .pre in
     let wide = c .wide in
-    record { power-range = pre; amount-range = omega (arith, wide .ensures .1) }
+    record { power-range = pre; amount-range = omega (arith, wide .ensures .range) }
 
 returns : tie.Need-returns Inv-loop μ-loop
 unfolding savingPasses
@@ -52,7 +52,7 @@ returns c =
     let wide = c .before .before .wide in
     let passes = c .before .passes in
     let if1 = c .if1 in
-    sym (some-holds savingCount (test (args .power) (args .t2)) (loop .i) (omega arith) (rw (← (wide .ensures .0)) (sym (passes .ensures) ∙ if1 .taken)))
+    sym (some-holds savingCount (test (args .power) (args .t2)) (loop .i) (omega arith) (rw (← (wide .ensures .value)) (sym (passes .ensures) ∙ if1 .taken)))
 
 add-i : tie.Need-add-i Inv-loop μ-loop
 add-i c = omega arith
@@ -69,7 +69,7 @@ loop-again c =
     let if1 = c .if1 in
     record {
       within = omega arith;
-      none-passes = some-more (loop .i) (test (args .power) (args .t2)) (loop .inv .none-passes) (rw (← (wide .ensures .0)) (sym (passes .ensures) ∙ if1 .left));
+      none-passes = some-more (loop .i) (test (args .power) (args .t2)) (loop .inv .none-passes) (rw (← (wide .ensures .value)) (sym (passes .ensures) ∙ if1 .left));
     }
 
 returns-2 : tie.Need-returns-2 Inv-loop μ-loop

@@ -33,7 +33,7 @@ returns-3 c =
     let if2 = c .before .before .before .before .if2 in
     let weight-to = c .before .before .weight-to in
     let if3 = c .if3 in
-    rw (le-ltb _ _ (if1 .left), ← (bad-awaiting .ensures), if2 .left, ← (weight-to .ensures .0), ne-eqb _ _ (if3 .taken))
+    rw (le-ltb _ _ (if1 .left), ← (bad-awaiting .ensures), if2 .left, ← (weight-to .ensures .value), ne-eqb _ _ (if3 .taken))
 
 over-total-requires : tie.Need-over-total-requires
 over-total-requires c κs = search needs
@@ -47,7 +47,7 @@ returns-4 c =
     let weight-to = c .before .before .before .weight-to in
     let if3 = c .before .if3 in
     let over-total = c .over-total in
-    rw (le-ltb _ _ (if1 .left), ← (bad-awaiting .ensures), if2 .left, ← (weight-to .ensures .0), eq-eqb _ _ (if3 .left)) (over-total .ensures)
+    rw (le-ltb _ _ (if1 .left), ← (bad-awaiting .ensures), if2 .left, ← (weight-to .ensures .value), eq-eqb _ _ (if3 .left)) (over-total .ensures)
 
 pub broken-place-spec : {M : Type 1} → statement M
 broken-place-spec =

@@ -38,7 +38,7 @@ wide-requires c κs = search needs
 add-sum : tie.Need-add-sum Inv-loop μ-loop
 add-sum c =
     let wide = c .wide in
-    omega (arith, wide .ensures .1)
+    omega (arith, wide .ensures .range)
 
 add-j : tie.Need-add-j Inv-loop μ-loop
 add-j c = omega arith
@@ -51,13 +51,13 @@ loop-again c =
     let args = c .before .before .before .args in
     let loop = c .before .before .loop in
     let wide = c .wide in
-    record { to = omega arith; value = omega (arith, total-more (args .t1) (loop .j), wide .ensures .0); range = omega (arith, wide .ensures .1) }
+    record { to = omega arith; value = omega (arith, total-more (args .t1) (loop .j), wide .ensures .value); range = omega (arith, wide .ensures .range) }
 
 returns : tie.Need-returns Inv-loop μ-loop
 returns c =
     let loop = c .before .loop in
     let args = c .before .before .args in
-    let e : loop .j ≡ args .n = omega arith in (rw (← e) (loop .inv .value), omega (arith, loop .inv .range))
+    let e : loop .j ≡ args .n = omega arith in record { value = rw (← e) (loop .inv .value); range = omega (arith, loop .inv .range) }
 
 pub weight-to-spec : {M : Type 1} → statement M
 weight-to-spec =
