@@ -1,6 +1,6 @@
 -- A step by its answers: one law for each refusal, in their order, and one for the place that is left. Assumes nothing.
 use mathlib.Core.Path.{_≡_, refl}
-use mathlib.Core.Bool.{Bool, true, false, _&&_, cond}
+use mathlib.Core.Bool.{Bool, true, false, _&&_, not, cond}
 use native.Mathlib.Omega.{arith}
 use borrow.Author.Tests.{eqb-false, eq-eqb, ne-eqb}
 use lib.Dec.{eqb}
@@ -44,6 +44,17 @@ module _ (run : Run) (event : Event) where
             ≡ record { number = cond o Numbers.overTotal 0; run = cond (eqb (cond o Numbers.overTotal 0) 0) (standing run (nextPlace run event)) run }
         go true = refl
         go false = refl
+
+-- Passed or Failed: out of turn unless a verification is awaited, and no lost ticks
+pub step-judged : (run : Run) (event : Event) → ReadyForEvent run → ((b : Bool) → outOfTurn b event ≡ not b) → overWeight run event ≡ false → (next : Place)
+    → next ≡ nextPlace run event
+    → cond (awaits (run .place)) (cond (overTotal (next .sums)) (refused Numbers.overTotal run) (accepted (standing run next))) (refused Numbers.outOfTurn run) ≡ stepOf run event
+step-judged run event ready turn light next e = go (awaits (run .place)) refl
+  where
+    go : (b : Bool) → awaits (run .place) ≡ b
+        → cond b (cond (overTotal (next .sums)) (refused Numbers.overTotal run) (accepted (standing run next))) (refused Numbers.outOfTurn run) ≡ stepOf run event
+    go true a = step-arrives run event (record { state = ready; turn = rw a (turn true) }) light next e
+    go false a = step-out-of-turn run event ready (rw a (turn false))
 
 -- while nothing is awaited in a run that is not finished, a task is running
 pub task-runs : (run : Run) → ReadyForEvent run → awaits (run .place) ≡ false → TaskRuns run

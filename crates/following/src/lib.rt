@@ -2,7 +2,7 @@
 ghost use mathlib.Core.Path.{_≡_};
 ghost use mathlib.Core.Bool.{cond};
 ghost use Rattle.refusals.specs.Numbers;
-ghost use Rattle.rules.specs.Rules.{overTotal};
+ghost use Rattle.rules.specs.Rules.{awaits, overTotal};
 ghost use Rattle.following.specs.Run.{standing, accepted, refused, stepOf};
 ghost use Rattle.following.specs.Working.Ready.{ReadyForEvent};
 use events::Event;
@@ -58,7 +58,7 @@ fn arrived(run: Run, next: Place) -> Stepped
     accepted(moved)
 }
 
-// Done. `step` has tested 21 and 22, so that no place or sum here passes its range; the same holds for the three below.
+// Done. `step` has tested 21 and 22, so that no place or sum here passes its range; the same holds for Stopped.
 fn done(run: Run) -> Stepped
     requires { ⌜ ReadyForEvent run ⌝ }
     ensures { λ r. ⌜ r ≡ stepOf run Event.Done ⌝ }
@@ -69,26 +69,14 @@ fn done(run: Run) -> Stepped
     arrived(run, after_done(run))
 }
 
-// Passed.
-fn passed(run: Run) -> Stepped
-    requires { ⌜ ReadyForEvent run ⌝ }
-    ensures { λ r. ⌜ r ≡ stepOf run Event.Passed ⌝ }
+// Passed or Failed, and the place that it leads to.
+fn judged(run: Run, next: Place) -> Stepped
+    ensures { λ r. ⌜ r ≡ cond (awaits (run .place)) (cond (overTotal (next .sums)) (refused Numbers.overTotal run) (accepted (standing run next))) (refused Numbers.outOfTurn run) ⌝ }
 {
     if run.place.awaiting == 0 {
         return refused(OUT_OF_TURN, run);
     }
-    arrived(run, after_passed(run))
-}
-
-// Failed.
-fn failed(run: Run) -> Stepped
-    requires { ⌜ ReadyForEvent run ⌝ }
-    ensures { λ r. ⌜ r ≡ stepOf run Event.Failed ⌝ }
-{
-    if run.place.awaiting == 0 {
-        return refused(OUT_OF_TURN, run);
-    }
-    arrived(run, after_failed(run))
+    arrived(run, next)
 }
 
 // Stopped.
@@ -118,8 +106,8 @@ pub fn step(run: Run, event: Event) -> Stepped
     }
     match event {
         Event::Done => done(run),
-        Event::Passed => passed(run),
-        Event::Failed => failed(run),
+        Event::Passed => judged(run, after_passed(run)),
+        Event::Failed => judged(run, after_failed(run)),
         Event::Stopped(lost) => stopped(run, lost),
     }
 }

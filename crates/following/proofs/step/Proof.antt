@@ -1,6 +1,11 @@
 -- `following::step` meets its contract. Refusals 21 and 22 by the branches; the rest is each event's own contract, at the event that was matched. Assumes nothing.
-use mathlib.Core.Path.{sym, _∙_}
-use Rattle.following.proofs.Steps.{step-broken, step-finished}
+use mathlib.Core.Path.{refl, sym, _∙_}
+use Rattle.events.specs.declared.Event.the-variants.{Passed, Failed}
+use Rattle.following.proofs.Steps.{step-broken, step-judged, step-finished}
+use Rattle.following.specs.Working.Ready.{ReadyForEvent}
+use Rattle.following.specs.Run.{overWeight, outOfTurn, nextPlace}
+use Rattle.events.specs.Events.{placeAfter}
+use Rattle.rules.proofs.Soundness.{run-sound}
 use borrow.Author.Needs.{needs}
 use Rattle.following.proofs.step.Statement.{statement}
 use Rattle.following.proofs.step.Tie as tie
@@ -49,24 +54,26 @@ done-requires c κs =
 enum-told-2 : tie.Need-enum-told-2
 enum-told-2 c = search needs
 
-passed-requires : tie.Need-passed-requires
-passed-requires c κs =
+after-passed-requires : tie.Need-after-passed-requires
+after-passed-requires c κs =
     let broken = c .before .before .before .before .before .broken in
     let if1 = c .before .before .before .before .if1 in
-    let finished = c .before .before .before .finished in
-    let if2 = c .before .before .if2 in
-    record { unbroken = sym (broken .ensures) ∙ if1 .left; unfinished = sym (finished .ensures) ∙ if2 .left }
+    run-sound _ (sym (broken .ensures) ∙ if1 .left)
+
+judged-requires : tie.Need-judged-requires
+judged-requires c κs = search needs
 
 enum-told-3 : tie.Need-enum-told-3
 enum-told-3 c = search needs
 
-failed-requires : tie.Need-failed-requires
-failed-requires c κs =
+after-failed-requires : tie.Need-after-failed-requires
+after-failed-requires c κs =
     let broken = c .before .before .before .before .before .broken in
     let if1 = c .before .before .before .before .if1 in
-    let finished = c .before .before .before .finished in
-    let if2 = c .before .before .if2 in
-    record { unbroken = sym (broken .ensures) ∙ if1 .left; unfinished = sym (finished .ensures) ∙ if2 .left }
+    run-sound _ (sym (broken .ensures) ∙ if1 .left)
+
+judged-requires-2 : tie.Need-judged-requires-2
+judged-requires-2 c κs = search needs
 
 enum-known-event : tie.Need-enum-known-event
 enum-known-event c = search needs
@@ -86,16 +93,32 @@ returns-3 c =
     rw (enum-told .given .1) (done .ensures)
 
 returns-4 : tie.Need-returns-4
+unfolding outOfTurn overWeight nextPlace placeAfter
 returns-4 c =
-    let enum-told2 = c .before .enum-told2 in
-    let passed = c .passed in
-    rw (enum-told2 .given .1) (passed .ensures)
+    let enum-told2 = c .before .before .enum-told2 in
+    let after-passed = c .before .after-passed in
+    let judged = c .judged in
+    let args = c .before .before .before .before .before .before .before .before .args in
+    let broken = c .before .before .before .before .before .before .before .broken in
+    let if1 = c .before .before .before .before .before .before .if1 in
+    let finished = c .before .before .before .before .before .finished in
+    let if2 = c .before .before .before .before .if2 in
+    let ready : ReadyForEvent (args .run) = record { unbroken = sym (broken .ensures) ∙ if1 .left; unfinished = sym (finished .ensures) ∙ if2 .left } in
+    rw (enum-told2 .given .1) (judged .ensures ∙ step-judged (args .run) Passed ready (λ b. refl) refl (after-passed .result) (after-passed .ensures))
 
 returns-5 : tie.Need-returns-5
+unfolding outOfTurn overWeight nextPlace placeAfter
 returns-5 c =
-    let enum-told3 = c .before .enum-told3 in
-    let failed = c .failed in
-    rw (enum-told3 .given .1) (failed .ensures)
+    let enum-told3 = c .before .before .enum-told3 in
+    let after-failed = c .before .after-failed in
+    let judged2 = c .judged2 in
+    let args = c .before .before .before .before .before .before .before .before .args in
+    let broken = c .before .before .before .before .before .before .before .broken in
+    let if1 = c .before .before .before .before .before .before .if1 in
+    let finished = c .before .before .before .before .before .finished in
+    let if2 = c .before .before .before .before .if2 in
+    let ready : ReadyForEvent (args .run) = record { unbroken = sym (broken .ensures) ∙ if1 .left; unfinished = sym (finished .ensures) ∙ if2 .left } in
+    rw (enum-told3 .given .1) (judged2 .ensures ∙ step-judged (args .run) Failed ready (λ b. refl) refl (after-failed .result) (after-failed .ensures))
 
 returns-6 : tie.Need-returns-6
 returns-6 c =
@@ -116,9 +139,11 @@ step-spec =
     enum-told
     done-requires
     enum-told-2
-    passed-requires
+    after-passed-requires
+    judged-requires
     enum-told-3
-    failed-requires
+    after-failed-requires
+    judged-requires-2
     enum-known-event
     stopped-requires
     returns-3
