@@ -123,14 +123,17 @@ struct pulvanor_joined pulvanor_join(const uint8_t *first, size_t first_length, 
 struct pulvanor_answer pulvanor_price(const uint8_t *sheet, size_t sheet_length, const uint8_t *marks, size_t marks_length);
 
 /* The least time of all allowed settings of the sheet; the setting's marks, one byte a task, are the first n
-   bytes of the buffer. Refusals 1 to 8, 11 (the buffer is shorter than n) and 13 (every allowed setting is too
+   bytes of the buffer. Of settings that take as long it is the first in this order: list the positions with
+   mark 3 from the last task down, then 0; at the first difference the setting with the earlier position comes
+   first. Where these lists agree, the same with marks 2 and 3, then with marks 1, 2 and 3. Refusals 1 to 8, 11 (the buffer is shorter than n) and 13 (every allowed setting is too
    slow). A refusal writes no byte, and later bytes are never touched.
 
-   Of two sheets that differ in costs alone (cd, cm, v, rd, rm), none of them less in the second, and that pass
-   1 to 8, with any two buffers that hold the marks: the second's time is not less, where the first gets 13 so
-   does the second, and where the second gets a time so does the first. The same holds of pulvanor_price under
-   the same marks, and, of the energies and not of the times of their marks, of pulvanor_energy by the same
-   powers where 29 refuses neither. It does not hold of rates and weights. */
+   Of two sheets that differ in costs alone (cd, cm, v, rd, rm), none of them less in the second, with any two
+   buffers that hold the marks: the second's time is not less; where the first gets 13 so does the second, if 1
+   to 7 do not refuse it; and where the second gets a time so does the first, if 1 to 6 do not refuse it. The
+   same holds of pulvanor_price under the same marks, of pulvanor_printed, and, of the energies and not of the
+   times of their marks, of pulvanor_energy by the same powers, where 29 does not refuse the second. It does not
+   hold of rates and weights. */
 struct pulvanor_answer pulvanor_plan(const uint8_t *sheet, size_t sheet_length, uint8_t *buffer, size_t buffer_length);
 
 /* The same by energy: `computing` is the power at which computing and verifying are billed, `saving` that of
@@ -141,7 +144,9 @@ struct pulvanor_answer pulvanor_plan(const uint8_t *sheet, size_t sheet_length, 
    powers 1 and 1 number, figure and every byte of the buffer are those of pulvanor_plan. Refusals 1 to 8, 29
    (a power is not 1 to 16, or a product above 2^30: the total weight or V with the first power, C_D, C_M, R_D
    or R_M with the second), 11 and 13 (every allowed setting takes more than 2^34 - 1 in energy), in this order.
-   Every value of a power is taken. A refusal writes no byte, and later bytes are never touched. */
+   Every value of a power is taken. Of settings that take as much it is the first in the order of pulvanor_plan.
+   pulvanor_price never refuses its marks on the same sheet, and their time is at most the energy. A refusal
+   writes no byte, and later bytes are never touched. */
 struct pulvanor_answer pulvanor_energy(const uint8_t *sheet, size_t sheet_length, uint64_t computing, uint64_t saving, uint8_t *buffer, size_t buffer_length);
 
 /* The plan by the equations of section 3.1 of source document 000 as printed, which ask each other and keep

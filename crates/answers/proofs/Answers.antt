@@ -17,7 +17,7 @@ use Rattle.chain.specs.Chain.{Chain}
 use Rattle.chain.specs.Working.Search.{Rising, leastD}
 use Rattle.chain.proofs.Theorems.{plan-is-least, plan-is-determined}
 use Rattle.marks.specs.Marks.{marksOf}
-use Rattle.answers.specs.Promise.{AllSlow, Refused, Planned, PlansChain, PlansChecked, Free, AnswerSays}
+use Rattle.answers.specs.Promise.{AllSlow, Refused, Planned, PlansChain, PlansChecked, Free, ResultSays, SlowSays, AnswerSays}
 use Rattle.answers.proofs.Promises.{slow-all, slow-none}
 
 -- whether every allowed setting is too slow is decided by the search's least time
@@ -27,11 +27,6 @@ slow-decided c rises n h = go (decLe none (leastD c none n))
     go : Dec (none ≤ leastD c none n) → Dec (AllSlow c n)
     go (yes l) = yes (slow-all c rises n h l)
     go (no l) = no (slow-none c rises n h (omega arith))
-
--- what 13 says, where no check has that number: nothing else stood against a result, and every allowed setting is too slow
-pub record SlowSays (refusal : ℕ) (c : Chain) (n : ℕ) (before : List ℕ) : Type 0 where
-  pub free : Free refusal n before
-  pub all-slow : AllSlow c n
 
 -- what a refusal comes from: its number is that of the checks, 11 or 13
 data Cause (refusal : ℕ) (c : Chain) (n : ℕ) (before : List ℕ) (number : ℕ) : Type 0 where
@@ -93,11 +88,7 @@ checked-once refusal c rises n some before a b r q f g =
     (λ number _ _ is. refused-once number before a b r q (is a r f) (is b q g))
     (λ free is. planned-once c n before (free .room) a b r q (is a r f) (is b q g))
 
--- what a result says: nothing stood against it, and it is the plan
-pub record ResultSays (refusal : ℕ) (c : Chain) (n : ℕ) (before after : List ℕ) (r : Answer) : Type 0 where
-  pub free : Free refusal n before
-  pub planned : Planned c n before after r
-
+-- a result
 pub checked-result : (refusal : ℕ) (c : Chain) → Rising c → (n : ℕ) → (refusal ≡ 0 → 0 < n) → (before after : List ℕ) (r : Answer)
     → PlansChecked refusal c n before after r → r .number ≡ Numbers.accepted → ResultSays refusal c n before after r
 checked-result refusal c rises n some before after r p e =

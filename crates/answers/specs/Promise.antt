@@ -56,7 +56,17 @@ pub record PlansChecked (refusal : ℕ) (c : Chain) (n : ℕ) (before after : Li
   pub short : refusal ≡ 0 → length before < n → Refused Numbers.shortBuffer before after r
   pub plans : refusal ≡ 0 → n ≤ length before → PlansChain c n before after r
 
--- free of every refusal but 13: no check holds, and the buffer holds the marks
+-- no check of some list holds, of which `refusal` is the first number given, and the buffer holds the marks; with all that a planner tests, no refusal but 13 is left
 pub record Free (refusal n : ℕ) (before : List ℕ) : Type 0 where
   pub clear : refusal ≡ 0
   pub room : n ≤ length before
+
+-- what a result says: nothing stood against it, and it is the plan
+pub record ResultSays (refusal : ℕ) (c : Chain) (n : ℕ) (before after : List ℕ) (r : Answer) : Type 0 where
+  pub free : Free refusal n before
+  pub planned : Planned c n before after r
+
+-- what 13 says, where no check has that number: nothing else stood against a result, and every allowed setting is too slow
+pub record SlowSays (refusal : ℕ) (c : Chain) (n : ℕ) (before : List ℕ) : Type 0 where
+  pub free : Free refusal n before
+  pub all-slow : AllSlow c n

@@ -2,14 +2,14 @@
 -- own marks (`Attained`),
 -- and of settings of that time these marks come first (`Ties`). Any two plans have the same time, and each wins over the other, so their marks are the same.
 -- Assumes nothing.
-use Prim.Native.Nat.{ℕ, _≤_, _<_}
+use Prim.Native.Nat.{ℕ, suc, _≤_, _<_}
 use mathlib.Core.Path.{_≡_, _∙_, sym}
 use mathlib.Core.Logic.{_↔_}
 use native.Mathlib.Decide.{decLe}
 use native.Mathlib.Omega.{arith}
 use Rattle.chain.specs.Chain.{Chain}
 use Rattle.chain.specs.Time.{Marks, D}
-use Rattle.chain.specs.Plan.{Allowed, IsPlan}
+use Rattle.chain.specs.Plan.{Allowed, IsPlan, HasLeast}
 use Rattle.chain.specs.Working.Search.{Rising, leastD, planMarks}
 use Rattle.chain.proofs.Lower.{leastD-lower}
 use Rattle.chain.proofs.Attained.{plan-allowed, plan-time}
@@ -33,6 +33,16 @@ module _ (c : Chain) (rises : Rising c) (N n : ℕ) where
       go : ((g : Marks) → Allowed c n g → N ≤ D c g n) → Dec (N ≤ leastD c N n) → N ≤ leastD c N n
       go all (yes l) = l
       go all (no l) = omega (arith, all (planMarks c N n) (plan-allowed c N n h (omega arith)), plan-time c N n h (omega arith))
+
+-- where one setting is allowed there is a plan: the search's, with a limit above the time of that setting
+pub allowed-has-plan : (c : Chain) → Rising c → (n : ℕ) → 0 < n → (f : Marks) → Allowed c n f → HasLeast c n
+allowed-has-plan c rises n h f s =
+    let N : ℕ = suc (D c f n) in
+    record {
+      marks = planMarks c N n;
+      time = leastD c N n;
+      plan = plan-is-least c rises N n h (omega (arith, leastD-lower c rises N n f s h));
+    }
 
 -- a sheet has at most one plan: its time and its marks are determined
 pub plan-is-determined : (c : Chain) (n : ℕ) (f g : Marks) (t s : ℕ) → IsPlan c n f t → IsPlan c n g s

@@ -49,3 +49,9 @@ pub record IsPlan (c : Chain) (n : ℕ) (f : Marks) (t : ℕ) : Type 0 where
   pub least : (g : Marks) → Allowed c n g → t ≤ D c g n
   -- of settings equal in least time it is the first
   pub first : (g : Marks) → Allowed c n g → D c g n ≡ t → Wins n f g
+
+-- there is a plan, whatever its time is
+pub record HasLeast (c : Chain) (n : ℕ) : Type 0 where
+  pub marks : Marks
+  pub time : ℕ
+  pub plan : IsPlan c n marks time

@@ -1,9 +1,11 @@
--- A job whose costs are not less has a chain that is nowhere cheaper, in energy by any powers and so in time. Assumes nothing.
+-- A job whose costs are not less has a chain that is nowhere cheaper, in energy by any powers and so in time; and checks 7 and 8 refuse the cheaper job only where
+-- they refuse the dearer. Assumes nothing.
 use Prim.Native.Nat.{ℕ, _+_, _-_, _*_, _≤_}
 use mathlib.Core.Path.{_≡_, refl}
+use mathlib.Core.Bool.{false}
 use mathlib.Core.List.{List}
 use mathlib.Core.Logic.{_⊎_, inl, inr}
-use native.Mathlib.Nat.{mul-le-mul-left}
+use native.Mathlib.Nat.{le-trans, mul-le-mul-left}
 use native.Mathlib.Omega.{arith}
 use Rattle.units.specs.Unit.{unit, up}
 use Rattle.units.proofs.Laws.{up-mono}
@@ -14,13 +16,15 @@ use Rattle.chain.specs.Plan.{IsPlan}
 use Rattle.chain.proofs.Equations.{past-le}
 use Rattle.chain.proofs.Dearer.{D-dearer, least-dearer, nowhere-same}
 use Rattle.job.specs.Job.{between, exponent, isAllowed, stretchAllowed}
+use Rattle.job.specs.Checks.{badValue, badTask}
 use Rattle.job.specs.declared.Job.{Job}
 use Rattle.job.specs.declared.Platform.{Platform}
+use Rattle.job.proofs.Ranges.{weights-right, costs-right, costs-bounded, costs-pass, value-passes}
 use Rattle.marks.specs.Marks.{marksOf, badStretch, badStretches, marksConditions}
 use Rattle.costs.specs.Costs.{vAt, cmAt, cdAt, rdAt, rmAt}
 use Rattle.costs.specs.Stretch.{chainOf, timeOf}
 use Rattle.costs.specs.Energy.{energyS, energyChain, plain}
-use Rattle.costs.specs.Dearer.{Cost, DiskCopy, MemoryCopy, Verification, DiskRecovery, MemoryRecovery, costOf, SameButCosts, OneRaised, CostsRaised}
+use Rattle.costs.specs.Dearer.{Cost, DiskCopy, MemoryCopy, Verification, DiskRecovery, MemoryRecovery, costOf, SameButCosts, OneRaised, CostsRaised, CanRaise}
 use Rattle.costs.specs.declared.Powers.{Powers}
 use Rattle.costs.proofs.Stretches.{S-rises, plain-same}
 
@@ -48,12 +52,6 @@ pub raised-by : (k : Cost) {a b : Job} → SameButCosts a b → costOf k (a .pla
     → Fixed k a b DiskCopy → Fixed k a b MemoryCopy → Fixed k a b Verification → Fixed k a b DiskRecovery → Fixed k a b MemoryRecovery → OneRaised k a b
 raised-by k {a} {b} same more x y z u w = record { others = same; raised = more; fixed = each (Fixed k a b) x y z u w }
 
--- every job can be raised, in each of its costs and by any amount
-pub record CanRaise (k : Cost) (x : ℕ) (a : Job) : Type 0 where
-  pub job : Job
-  pub one : OneRaised k a job
-  pub amount : costOf k (job .platform) ≡ costOf k (a .platform) + x
-
 -- a job with other costs
 abbrev with-costs : Job → (cd cm v rd rm : ℕ) → Job
 with-costs a cd cm v rd rm =
@@ -75,6 +73,7 @@ module _ (a : Job) (x : ℕ) where
         amount = e;
       }
 
+  -- every job can be raised, in each of its costs and by any amount
   pub can-raise : (k : Cost) → CanRaise k x a
   unfolding costOf
   can-raise =
@@ -167,3 +166,23 @@ module _ (a b : Job) (dearer : CostsRaised a b) where
   pub marks-same : (l : List ℕ) → marksConditions a l ≡ marksConditions b l
   unfolding badStretches badStretch stretchAllowed isAllowed
   marks-same l = rw (dearer .others .tasks, dearer .others .weights, dearer .others .failstop, dearer .others .silent)
+
+  -- 7: what is in range for the dearer job is in range for the cheaper
+  pub value-cheaper : badValue b ≡ false → badValue a ≡ false
+  unfolding costOf
+  value-cheaper e =
+      let within = costs-bounded (b .platform) (costs-right b e) in
+      value-passes a
+      (costs-pass (a .platform) (record {
+        cd = le-trans (dearer .costs DiskCopy) (within .cd);
+        cm = le-trans (dearer .costs MemoryCopy) (within .cm);
+        v = le-trans (dearer .costs Verification) (within .v);
+        rd = le-trans (dearer .costs DiskRecovery) (within .rd);
+        rm = le-trans (dearer .costs MemoryRecovery) (within .rm);
+      }))
+      (rw (dearer .others .tasks, dearer .others .weights) (weights-right b e))
+
+  -- 8: it asks no cost
+  pub task-same : badTask a ≡ badTask b
+  unfolding badTask isAllowed
+  task-same = rw (dearer .others .tasks, dearer .others .weights, dearer .others .failstop, dearer .others .silent)

@@ -3,3 +3,4 @@ pub mod Ranges
 pub mod Stretches
 pub mod Dearer
 pub mod Settings
+pub mod Powered

@@ -1,5 +1,5 @@
 -- Request 107: two jobs, the second with its costs raised.
-use Prim.Native.Nat.{ℕ, _≤_}
+use Prim.Native.Nat.{ℕ, _+_, _≤_}
 use mathlib.Core.Path.{_≡_}
 use mathlib.Core.Logic.{_⊎_}
 use Rattle.job.specs.declared.Job.{Job}
@@ -37,3 +37,9 @@ pub record OneRaised (k : Cost) (a b : Job) : Type 0 where
 pub record CostsRaised (a b : Job) : Type 0 where
   pub others : SameButCosts a b
   pub costs : (k : Cost) → costOf k (a .platform) ≤ costOf k (b .platform)
+
+-- a job that has the cost k raised by x, and nothing else changed: every job has one (`can-raise`)
+pub record CanRaise (k : Cost) (x : ℕ) (a : Job) : Type 0 where
+  pub job : Job
+  pub one : OneRaised k a job
+  pub amount : costOf k (job .platform) ≡ costOf k (a .platform) + x

@@ -18,7 +18,8 @@ use Rattle.costs.specs.Stretch.{timeOf}
 use Rattle.costs.specs.Dearer.{Cost, OneRaised, CostsRaised}
 use Rattle.costs.proofs.Dearer.{raised-dearer, time-dearer, marks-same}
 use Rattle.pricing.specs.Price.{priceRefusal, priceOf}
-use Rattle.dearer.specs.Dearer.{NotSooner}
+use Rattle.dearer.specs.Dearer.{cheaperRefusal, dearerRefusal, NotSooner}
+use Rattle.dearer.proofs.Checks.{cheaper-clear, dearer-clear}
 use Rattle.pricing.proofs.Prices.{slow-decides, slow-passes, price-sheet, price-marks, price-time}
 
 module _ (s l : List ℕ) where
@@ -84,7 +85,7 @@ module _ (s s' l : List ℕ) (dearer : CostsRaised (jobOf s) (jobOf s')) where
   same : first (marksConditions (jobOf s) l) ≡ first (marksConditions (jobOf s') l)
   same = rw (marks-same (jobOf s) (jobOf s') dearer l)
 
-  pub price-not-sooner : NotSooner (sheetRefusal s ≡ 0) (sheetRefusal s' ≡ 0) (priceOf s l) (priceOf s' l)
+  pub price-not-sooner : NotSooner (cheaperRefusal s ≡ 0) (dearerRefusal s' ≡ 0) (priceOf s l) (priceOf s' l)
   unfolding priceOf
   price-not-sooner =
       record {
@@ -93,16 +94,18 @@ module _ (s s' l : List ℕ) (dearer : CostsRaised (jobOf s) (jobOf s')) where
             λ e z.
             let k = number s l e in
             answered-number _ _
-            ∙ cleared-slow s' l (record { sheet = z; marks = sym same ∙ slow-cleared s l k .marks }) (omega (arith, slow-time s l k, longer));
+            ∙ cleared-slow s' l (record { sheet = dearer-clear s s' dearer z (slow-cleared s l k .sheet); marks = sym same ∙ slow-cleared s l k .marks })
+            (omega (arith, slow-time s l k, longer));
         result =
             λ e z.
             let k = number s' l e in
             answered-number _ _
-            ∙ cleared-priced s l (record { sheet = z; marks = same ∙ result-cleared s' l k .marks }) (omega (arith, result-in-time s' l k, longer));
+            ∙ cleared-priced s l (record { sheet = cheaper-clear s s' dearer z (result-cleared s' l k .sheet); marks = same ∙ result-cleared s' l k .marks })
+            (omega (arith, result-in-time s' l k, longer));
       }
 
 -- 'raising any of the five costs, other fields fixed'
-pub price-raised : (cost : Cost) (s s' l : List ℕ) → OneRaised cost (jobOf s) (jobOf s') → NotSooner (sheetRefusal s ≡ 0) (sheetRefusal s' ≡ 0) (priceOf s l) (priceOf s' l)
+pub price-raised : (cost : Cost) (s s' l : List ℕ) → OneRaised cost (jobOf s) (jobOf s') → NotSooner (cheaperRefusal s ≡ 0) (dearerRefusal s' ≡ 0) (priceOf s l) (priceOf s' l)
 price-raised cost s s' l one = price-not-sooner s s' l (raised-dearer cost (jobOf s) (jobOf s') one)
 
 -- where the dearer sheet gets a result, so does the cheaper, and it is not more: hours booked from the dearer's time are enough

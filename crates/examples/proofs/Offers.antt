@@ -36,6 +36,7 @@ use Rattle.costs.specs.declared.Powers.{Powers}
 use Rattle.costs.proofs.Stretches.{S-rises, energy-rises}
 use Rattle.costs.proofs.Dearer.{each, raised-by}
 use Rattle.pricing.specs.Price.{priceRefusal, priceOf}
+use Rattle.dearer.proofs.Checks.{cheaper-asked}
 use Rattle.dearer.proofs.Dearer.{booking-holds}
 use Rattle.answers.specs.Promise.{PlansChecked, Free}
 use Rattle.planning.specs.Promise.{Plans}
@@ -236,7 +237,7 @@ one-booking k before after before' after' r r' room room' plans plans' =
     let raised = one-compared k .0 in
     let number : r' .number ≡ Numbers.accepted = ap (λ q. q .number) (both .given' before' after' r' room' plans') in
     booking-holds (plan-raised k sheetA (raisedA k) raised before after before' after' r r' plans plans')
-    (record { clear = both .clear; room = omega (arith, facts .A .tasks) }) number .1
+    (record { clear = cheaper-asked sheetA (both .clear); room = omega (arith, facts .A .tasks) }) number .1
 
 -- with all five raised
 pub all-compared : CostsRaised (jobOf sheetA) (jobOf allRaisedA) × BothPlanned sheetA allRaisedA 2 2 (accepted 726347) (accepted 730255)

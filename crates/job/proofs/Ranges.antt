@@ -5,7 +5,7 @@ use mathlib.Core.Bool.{false, _||_}
 use mathlib.Core.List.{List}
 use native.Mathlib.Nat.{le-trans, le-of-lt, mul-le-mul}
 use native.Mathlib.Omega.{arith}
-use borrow.Author.Tests.{ltb-false, eqb-false}
+use borrow.Author.Tests.{le-ltb, ltb-false, eqb-false}
 use lib.Dec.{lit≤, ltb, eqb}
 use lib.ListN.{getD}
 use Rattle.units.specs.Limits.{costLimit}
@@ -38,7 +38,7 @@ unfolding badWeight
 weight-range w j e = (omega (arith, eqb-false (weightAt w j) 0 (or-fails _ _ e .0)), ltb-false costLimit (weightAt w j) (or-fails (eqb (weightAt w j) 0) _ e .1))
 
 module _ (job : Job) (value : badValue job ≡ false) where
-  weights-right : (some (job .tasks) (badWeight (job .weights)) || ltb costLimit (total (job .weights) (job .tasks))) ≡ false
+  pub weights-right : (some (job .tasks) (badWeight (job .weights)) || ltb costLimit (total (job .weights) (job .tasks))) ≡ false
   unfolding badValue
   weights-right = or-fails (badCost (job .platform)) _ value .1
 
@@ -68,6 +68,18 @@ costs-bounded p e =
       rm = within 4 (omega arith);
     }
 
+-- and costs in range pass it
+pub costs-pass : (p : Platform) → CostsBounded p → badCost p ≡ false
+unfolding badCost some
+costs-pass p b =
+    rw (
+      le-ltb costLimit (p .cd) (b .cd),
+      le-ltb costLimit (p .cm) (b .cm),
+      le-ltb costLimit (p .v) (b .v),
+      le-ltb costLimit (p .rd) (b .rd),
+      le-ltb costLimit (p .rm) (b .rm),
+    )
+
 -- check 7 passes where costs and weights are in range
 pub value-passes : (job : Job) → badCost (job .platform) ≡ false
     → (some (job .tasks) (badWeight (job .weights)) || ltb costLimit (total (job .weights) (job .tasks))) ≡ false → badValue job ≡ false
@@ -82,6 +94,10 @@ pub record ValuesPassed (job : Job) : Type 0 where
 pub values-passed : (job : Job) → first (jobConditions job) ≡ 0 → ValuesPassed job
 unfolding has distinct
 values-passed job e = let clear = first-clear (jobConditions job) refl e in record { value = clear 0; task = clear 1 }
+
+pub values-pass : (job : Job) → ValuesPassed job → first (jobConditions job) ≡ 0
+unfolding first
+values-pass job p = rw (p .value, p .task)
 
 -- what checks 3, 7 and 8 leave
 pub job-sound : (job : Job) → badCount (job .tasks) ≡ false → first (jobConditions job) ≡ 0 → Sound job

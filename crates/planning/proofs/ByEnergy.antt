@@ -6,7 +6,7 @@ use mathlib.Core.Bool.{Bool, true, false, true≢false}
 use mathlib.Core.List.{List}
 use mathlib.Core.Logic.{_⊎_, inl, inr, _↔_, _≢_}
 use native.Mathlib.Decide.{decLe}
-use native.Mathlib.Nat.{eq-zero-or-pos}
+use native.Mathlib.Nat.{eq-zero-or-pos, le-trans, le-of-eq}
 use native.Mathlib.Omega.{arith}
 use lib.ListN.{length, take}
 use Rattle.units.specs.Limits.{timeLimit}
@@ -15,10 +15,12 @@ use Rattle.lists.proofs.Lists.{length-tabulate, getD-tabulate}
 use Rattle.refusals.specs.Numbers
 use Rattle.refusals.specs.Refusals.{first, has}
 use Rattle.refusals.specs.declared.Answer.{Answer}
+use Rattle.refusals.proofs.Answers.{answered-number, answered-time}
 use Rattle.refusals.proofs.Refusals.{first-other}
 use Rattle.chain.specs.Chain.{Chain}
 use Rattle.chain.specs.Time.{Marks, D}
-use Rattle.chain.specs.Plan.{Allowed}
+use Rattle.chain.specs.Plan.{Allowed, HasLeast}
+use Rattle.chain.proofs.Theorems.{allowed-has-plan}
 use Rattle.chain.proofs.Agree.{D-agree, allowed-agree}
 use Rattle.chain.proofs.Same.{same-allowed}
 use Rattle.units.specs.Limits.{taskLimit}
@@ -29,20 +31,24 @@ use Rattle.sheet.proofs.Readings.{sheet-layout, sheet-sound}
 use Rattle.layout.proofs.Sections.{layout-tasks}
 use Rattle.marks.specs.Marks.{marksOf, marksConditions}
 use Rattle.marks.proofs.Stretches.{mark-at}
-use Rattle.costs.specs.Stretch.{chainOf}
+use Rattle.costs.specs.Stretch.{chainOf, timeOf}
 use Rattle.costs.specs.Energy.{energyChain, energyOf, plain}
 use Rattle.costs.specs.declared.Powers.{Powers}
+use Rattle.costs.proofs.Powered.{time-in-energy}
 use Rattle.costs.proofs.Ranges.{plain-products}
 use Rattle.costs.proofs.Settings.{checks-setting, setting-checks}
 use Rattle.costs.proofs.Stretches.{energy-rises, plain-same}
-use Rattle.answers.specs.Promise.{Refused, AnswerSays}
+use Rattle.pricing.specs.Price.{priceRefusal, priceOf}
+use Rattle.pricing.proofs.Prices.{slow-passes, price-time}
+use Rattle.pricing.proofs.Settings.{sheet-has-plan}
+use Rattle.answers.specs.Promise.{Refused, ResultSays, AnswerSays}
 use Rattle.planning.specs.Promise.{Plans}
 use Rattle.powers.specs.Powers.{mostPower, badPowers, PowersFit}
-use Rattle.planning.specs.Energy.{energyRefusal, PlansByEnergy, LeastEnergy, SamePower}
+use Rattle.planning.specs.Energy.{energyRefusal, PlansByEnergy, LeastEnergy, PricedWithin, SamePower}
 use Rattle.powers.proofs.Powers.{powers-fit}
-use Rattle.planning.proofs.EnergyRefusals.{energy-sheet, energy-bad, energy-clear}
+use Rattle.planning.proofs.EnergyRefusals.{passed-sheet, passed-powers, energy-sheet, energy-bad, energy-clear}
 use Rattle.answers.proofs.Promises.{plans-same}
-use Rattle.answers.proofs.Answers.{ResultSays, checked-once, checked-result, checked-refused, chain-says, front-length}
+use Rattle.answers.proofs.Answers.{checked-once, checked-result, checked-refused, chain-says, front-length}
 use Rattle.planning.proofs.Theorems.{plan-once}
 
 -- 'Exponents keep the plain weights': the same settings are allowed
@@ -51,22 +57,21 @@ unfolding energyChain chainOf
 energy-allowed powers job n g =
     (λ a. record { setting = a .setting; stretches = a .stretches }, λ a. record { setting = a .setting; stretches = a .stretches })
 
+-- every sheet that passes checks 1 to 8 has a plan by energy, whatever its energy is
+pub energy-has-plan : (powers : Powers) (s : List ℕ) → sheetRefusal s ≡ 0 → HasLeast (energyChain powers (jobOf s)) (jobOf s .tasks)
+energy-has-plan powers s z =
+    let plan = sheet-has-plan s z in
+    allowed-has-plan (energyChain powers (jobOf s)) (energy-rises powers (jobOf s)) (jobOf s .tasks) (sheet-sound s z .some-task) (plan .marks)
+    (energy-allowed powers (jobOf s) (jobOf s .tasks) (plan .marks) .1 (plan .plan .allowed))
+
 -- checks 1 to 8 never give 29
 sheet-other : (s : List ℕ) → sheetRefusal s ≢ Numbers.badPower
 unfolding sheetRefusal has
 sheet-other s = first-other Numbers.badPower (sheetConditions s) (omega arith) refl
 
 module _ (powers : Powers) (s : List ℕ) where
-  -- where no check of a plan by energy holds, none of 1 to 8 does
-  clear-sheet : energyRefusal powers s ≡ 0 → sheetRefusal s ≡ 0
-  clear-sheet z = go (eq-zero-or-pos (sheetRefusal s))
-    where
-      go : (sheetRefusal s ≡ 0) ⊎ (0 < sheetRefusal s) → sheetRefusal s ≡ 0
-      go (inl e) = e
-      go (inr h) = absurd (omega (arith, energy-sheet powers s h))
-
   pub energy-some-task : energyRefusal powers s ≡ 0 → 0 < jobOf s .tasks
-  energy-some-task z = sheet-sound s (clear-sheet z) .some-task
+  energy-some-task z = sheet-sound s (passed-sheet powers s z) .some-task
 
   abbrev n : ℕ
   n = jobOf s .tasks
@@ -153,9 +158,22 @@ module _ (powers : Powers) (s : List ℕ) where
             first-of-equals = λ l c q. result .planned .plan .first (marksOf l) (allowed-marks l c) q;
           }
 
+      -- so these marks have a price, which is at most the energy: no marks take more time than energy
+      pub energy-priced : PricedWithin s (take n after) (r .time)
+      unfolding priceOf
+      energy-priced =
+          let fit = powers-fit powers (jobOf s) .0 (passed-powers powers s (result .free .clear)) in
+          let l : List ℕ = take n after in
+          let hours : timeOf (jobOf s) l ≤ r .time =
+          le-trans (time-in-energy (jobOf s) powers (fit .computing-least) (fit .saving-least) l) (le-of-eq (energy-least .exact)) in
+          let none : priceRefusal s l ≡ 0 =
+          sym (slow-passes (timeOf (jobOf s) l) (omega (arith, hours, energy-least .in-limit))
+          ∙ price-time s l (passed-sheet powers s (result .free .clear)) (energy-least .allowed)) in
+          record { priced = answered-number (priceRefusal s l) (timeOf (jobOf s) l) ∙ none; at-most = rw (answered-time _ _ none) hours }
+
       -- and the sheet passes checks 1 to 8, so its task count is in range
       pub energy-tasks : tasks s ≤ taskLimit
-      energy-tasks = layout-tasks s (sheet-layout s (clear-sheet (result .free .clear))) .few-tasks
+      energy-tasks = layout-tasks s (sheet-layout s (passed-sheet powers s (result .free .clear))) .few-tasks
 
     -- 29 exactly where the sheet passes 1 to 8 and the powers do not fit
     pub energy-29 : (r .number ≡ Numbers.badPower) ↔ ((sheetRefusal s ≡ 0) × (PowersFit powers (jobOf s) → ⊥))

@@ -18,9 +18,9 @@ use Rattle.costs.proofs.Settings.{setting-checks}
 use Rattle.costs.proofs.Stretches.{S-rises}
 use Rattle.pricing.specs.Price.{priceOf}
 use Rattle.pricing.proofs.Prices.{slow-passes, price-time}
-use Rattle.answers.specs.Promise.{Planned, AnswerSays}
+use Rattle.answers.specs.Promise.{Planned, ResultSays, AnswerSays}
 use Rattle.planning.specs.Promise.{Plans}
-use Rattle.answers.proofs.Answers.{ResultSays, checked-once, checked-result, chain-says, front-length}
+use Rattle.answers.proofs.Answers.{checked-once, checked-result, chain-says, front-length}
 
 -- a sheet that passes checks 1 to 8 has a task
 pub some-task : (s : List ℕ) → sheetRefusal s ≡ 0 → 0 < jobOf s .tasks

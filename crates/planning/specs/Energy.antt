@@ -12,6 +12,8 @@ use Rattle.chain.specs.Plan.{Wins}
 use Rattle.marks.specs.Marks.{marksOf, marksConditions}
 use Rattle.costs.specs.Energy.{energyChain, energyOf}
 use Rattle.costs.specs.declared.Powers.{Powers}
+use Rattle.pricing.specs.Price.{priceOf}
+use Rattle.dearer.specs.Dearer.{dearerConditions}
 use Rattle.answers.specs.Promise.{PlansChecked}
 use Rattle.powers.specs.Powers.{mostPower, badPowers}
 
@@ -28,6 +30,13 @@ abbrev pub PlansByEnergy : Powers → (s before after : List ℕ) → Answer →
 PlansByEnergy powers s before after r =
     PlansChecked (energyRefusal powers s) (energyChain powers (jobOf s)) (jobOf s .tasks) before after r
 
+-- request 107 by energy: of the cheaper sheet no more is asked than by time, and of the dearer that none of 1 to 7, 28 and 29 refuses it
+abbrev pub energyDearerConditions : Powers → List ℕ → List Condition
+energyDearerConditions powers s = dearerConditions s ++ (refusal Numbers.badPower (badPowers powers (jobOf s)) ∷ [])
+
+unfoldable pub energyDearerRefusal : Powers → List ℕ → ℕ
+energyDearerRefusal powers s = first (energyDearerConditions powers s)
+
 -- a result in the words of a user's own marks, those that pass checks 9 and 10
 pub record LeastEnergy (powers : Powers) (s marks : List ℕ) (energy : ℕ) : Type 0 where
   -- the plan's marks are such marks
@@ -40,6 +49,11 @@ pub record LeastEnergy (powers : Powers) (s marks : List ℕ) (energy : ℕ) : T
   -- and of those that take as much it is the first
   pub first-of-equals : (l : List ℕ) → first (marksConditions (jobOf s) l) ≡ 0 → energyOf powers (jobOf s) l ≡ energy
       → Wins (jobOf s .tasks) (marksOf marks) (marksOf l)
+
+-- the marks of a plan by energy have a price, and it is at most the energy: powers are at least 1
+pub record PricedWithin (s marks : List ℕ) (energy : ℕ) : Type 0 where
+  pub priced : priceOf s marks .number ≡ Numbers.accepted
+  pub at-most : priceOf s marks .time ≤ energy
 
 -- powers that no plan can tell apart: the same, or both above the range
 abbrev pub SamePower : ℕ → ℕ → Type 0

@@ -1,2 +1,3 @@
--- The laws of powers that fit.
+-- The laws of powers that fit, and of those of a dearer job.
 pub mod Powers
+pub mod Dearer

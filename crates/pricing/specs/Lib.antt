@@ -1,2 +1,3 @@
 pub mod Price
+pub mod Settings
 pub mod Working

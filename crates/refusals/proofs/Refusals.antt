@@ -1,7 +1,7 @@
 -- 'The first condition that holds decides, and a number is given under no other': `first` gives a condition's number where it holds and
 -- none before it does, and 0 only where none holds. Assumes nothing.
 use Prim.Native.Nat.{ℕ, zero, suc, _<_}
-use mathlib.Core.Path.{_≡_, refl, sym}
+use mathlib.Core.Path.{_≡_, refl, sym, _∙_}
 use mathlib.Core.Bool.{Bool, true, false, cond, not, false≢true}
 use mathlib.Core.List.{List, [], _∷_, _++_}
 use mathlib.Core.Logic.{_⊎_, inl, inr, _≢_}
@@ -70,6 +70,15 @@ first-none cs ds e = go (eq-zero-or-pos (first cs))
     go : (first cs ≡ 0) ⊎ (0 < first cs) → first cs ≡ 0
     go (inl z) = z
     go (inr p) = absurd (omega (arith, first-stands cs ds p))
+
+-- nor does a condition that is listed last
+pub last-clear : (cs : List Condition) (k : ℕ) (b : Bool) → 0 < k → Numbered cs → first (cs ++ (refusal k b ∷ [])) ≡ 0 → b ≡ false
+unfolding first
+last-clear cs k b h n e = go b (sym (first-goes-on cs (refusal k b ∷ []) n (first-none cs _ e)) ∙ e)
+  where
+    go : (b : Bool) → cond b k 0 ≡ 0 → b ≡ false
+    go true z = absurd (omega arith)
+    go false z = refl
 
 -- a number that no condition has is never given
 pub first-other : (k : ℕ) (cs : List Condition) → 0 < k → has k cs ≡ false → first cs ≢ k
