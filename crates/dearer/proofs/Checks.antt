@@ -5,7 +5,7 @@ use mathlib.Core.Path.{_≡_, refl, sym, _∙_}
 use mathlib.Core.List.{List, []}
 use native.Mathlib.Omega.{arith}
 use Rattle.refusals.specs.Numbers
-use Rattle.refusals.specs.Refusals.{first, has, distinct, Numbered}
+use Rattle.refusals.specs.Refusals.{has, distinct, Numbered}
 use Rattle.refusals.proofs.Refusals.{first-none, first-goes-on, last-clear, refused-later, refused-none}
 use Rattle.job.proofs.Ranges.{values-passed, values-pass}
 use Rattle.layout.specs.Layout.{layoutConditions}

@@ -1,14 +1,14 @@
 -- Every sheet that passes checks 1 to 8 has an allowed setting: check 8 leaves each task alone allowed, so each list in which every task is marked passes 9 and 10.
 -- So it has a plan, whether its time is in the limit or not. Assumes nothing.
-use Prim.Native.Nat.{ℕ, suc, _-_, _≤_, _<_}
-use mathlib.Core.Path.{_≡_, refl, sym, _∙_}
+use Prim.Native.Nat.{ℕ, _-_, _<_}
+use mathlib.Core.Path.{_≡_, _∙_}
 use mathlib.Core.List.{List}
 use native.Mathlib.Omega.{arith}
-use lib.ListN.{length, getD}
+use lib.ListN.{getD}
 use Rattle.lists.specs.Lists.{tabulate}
 use Rattle.lists.proofs.Lists.{length-tabulate, getD-tabulate}
 use Rattle.refusals.specs.Refusals.{first}
-use Rattle.chain.specs.Time.{Marks, disk}
+use Rattle.chain.specs.Time.{disk}
 use Rattle.chain.specs.Plan.{Allowed, HasLeast}
 use Rattle.chain.proofs.Theorems.{allowed-has-plan}
 use Rattle.job.proofs.Ranges.{values-passed}
