@@ -1,0 +1,2 @@
+-- Laws of the texts that are printed.
+pub mod Lengths
