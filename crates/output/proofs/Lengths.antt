@@ -15,9 +15,10 @@ use Rattle.state.specs.declared.Place.{Place}
 use Rattle.numerals.specs.Digits.{wordMost}
 use Rattle.lines.specs.Lines.{space, wordsLine, numberLine, marksLine, Room, Puts}
 use Rattle.lines.proofs.Lines.{numbered-most, length-words, length-marked}
-use Rattle.lines.proofs.Buffers.{puts-text}
+use Rattle.lines.proofs.Buffers.{puts-text, puts-length}
 use Rattle.output.specs.Words.{marksWord, keptWord, redoneWord, verifyWord, savesWord, recoveryWord, positionWord, awaitedWord, yesWord, noWord, refusedWord, timeWord}
-use Rattle.output.specs.Texts.{refusedText, planText, priceText, awaitedText, sumsText, runText, longestWord, lineRoom, textRoom, Holds}
+use Rattle.output.specs.Texts.{refusedText, complaintText, planText, priceText, awaitedText, sumsText, runText, longestWord, lineRoom, textRoom, Holds}
+use Rattle.output.specs.Working.Ready.{ReadyForComplaint}
 use Rattle.output.specs.declared.Text.{Text}
 
 -- an empty room takes each text that is short enough
@@ -25,17 +26,20 @@ pub room-empty : {a text : List ℕ} → textRoom ≡ length a → length text �
 room-empty {a} {text} e h = record { fits = omega arith }
 
 -- and holds it
-pub room-holds : {a b text : List ℕ} {end : ℕ} → Room a 0 text → textRoom ≡ length a → Puts a b 0 end text → Holds text (record { bytes = b; length = end })
-room-holds {a} {b} {text} {end} room e p =
-    record { within = omega (arith, room .fits, p .ends); bytes = puts-text room p }
+pub room-holds : {a b text : List ℕ} {end : ℕ} → Room a 0 text → Puts a b 0 end text → Holds text (record { bytes = b; length = end })
+room-holds {a} {b} {text} {end} room p =
+    record { within = omega (arith, room .fits, p .ends, puts-length p); bytes = puts-text room p }
 
 -- a word and a number of 64 bits
 pub line-fits : (word : List ℕ) (n : ℕ) → length word ≤ longestWord → n ≤ wordMost → length (numberLine word n) ≤ lineRoom
 line-fits word n short h = omega (arith, numbered-most word n h)
 
-pub refused-fits : (number : ℕ) → number ≤ wordMost → length (refusedText number) ≤ textRoom
-unfolding refusedText
-refused-fits number h = omega (arith, line-fits refusedWord number (omega arith) h)
+pub line-room : (word : List ℕ) (n : ℕ) → length word ≤ longestWord → n ≤ wordMost → length (numberLine word n) ≤ textRoom
+line-room word n short h = omega (arith, line-fits word n short h)
+
+pub complaint-fits : (words which : List ℕ) → ReadyForComplaint words which → length (complaintText words which) ≤ textRoom
+unfolding complaintText
+complaint-fits words which ready = omega (arith, length-append words (wordsLine which), length-words which, ready .words-short, ready .which-short)
 
 -- the line of a time or an energy, and the marks
 pub plan-fits : (word : List ℕ) (time : ℕ) (marks : List ℕ) → length word ≤ longestWord → time ≤ wordMost → length marks ≤ taskLimit

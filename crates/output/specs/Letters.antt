@@ -1,4 +1,4 @@
--- The text codes of small letters.
+-- The text codes of small letters, and of a colon.
 use Prim.Native.Nat.{ℕ}
 
 abbrev pub a : ℕ
@@ -24,6 +24,9 @@ i = 105
 
 abbrev pub k : ℕ
 k = 107
+
+abbrev pub l : ℕ
+l = 108
 
 abbrev pub m : ℕ
 m = 109
@@ -57,3 +60,6 @@ w = 119
 
 abbrev pub y : ℕ
 y = 121
+
+abbrev pub colon : ℕ
+colon = 58

@@ -4,7 +4,7 @@ use mathlib.Core.Path.{_≡_}
 use mathlib.Core.Bool.{cond}
 use mathlib.Core.List.{List, _∷_, _++_}
 use lib.Dec.{eqb}
-use lib.ListN.{take}
+use lib.ListN.{length, take, replicate}
 use Rattle.units.specs.Limits.{taskLimit}
 use Rattle.refusals.specs.Numbers
 use Rattle.refusals.specs.declared.Answer.{Answer}
@@ -31,6 +31,10 @@ use Rattle.output.specs.declared.Text.{Text}
 -- 'one line, the word and the number, as in `refused 6`'
 unfoldable pub refusedText : ℕ → List ℕ
 refusedText number = numberLine refusedWord number
+
+-- what is wrong, and with which argument or file, on one line: `cannot read: ` and `sheet`
+unfoldable pub complaintText : (words which : List ℕ) → List ℕ
+complaintText words which = words ++ wordsLine which
 
 -- the answer of a planner: the word for its figure and the figure, then one digit a task; or the refusal
 unfoldable pub planText : (word : List ℕ) → Answer → (marks : List ℕ) → List ℕ
@@ -74,11 +78,22 @@ runLines = 7
 abbrev pub textRoom : ℕ
 textRoom = runLines * lineRoom + taskLimit
 
+-- a fresh buffer, which a program lends to a planner: a byte for each task that a sheet can have
+abbrev pub fresh : List ℕ
+fresh = replicate taskLimit 0
+
 -- what is printed of a text in its room: the bytes before its end
 abbrev pub printed : Text → List ℕ
 printed text = take (text .length) (text .bytes)
 
 -- a text in its room
 pub record Holds (text : List ℕ) (r : Text) : Type 0 where
-  pub within : r .length ≤ textRoom
+  pub within : r .length ≤ length (r .bytes)
   pub bytes : printed r ≡ text
+
+-- what a planner's program prints: the text of an answer and of marks that keep the planner's promise for a fresh buffer
+pub record PlanPrints (Promise : (before after : List ℕ) → Answer → Type 0) (word : List ℕ) (n : ℕ) (r : Text) : Type 0 where
+  pub answer : Answer
+  pub marks : List ℕ
+  pub promise : Promise fresh marks answer
+  pub text : Holds (planText word answer (take n marks)) r

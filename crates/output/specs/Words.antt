@@ -1,7 +1,8 @@
 -- The words that the programs print, letter by letter.
 use Prim.Native.Nat.{ℕ}
 use mathlib.Core.List.{List, [], _∷_}
-use Rattle.output.specs.Letters.{a, c, d, e, f, g, i, k, m, n, o, p, r, s, t, u, v, w, y}
+use Rattle.lines.specs.Lines.{space}
+use Rattle.output.specs.Letters.{a, c, d, e, f, g, i, k, l, m, n, o, p, r, s, t, u, v, w, y, colon}
 
 abbrev pub timeWord : List ℕ
 timeWord = t ∷ i ∷ m ∷ e ∷ []
@@ -41,3 +42,13 @@ savesWord = s ∷ a ∷ v ∷ e ∷ s ∷ []
 
 abbrev pub recoveryWord : List ℕ
 recoveryWord = r ∷ e ∷ c ∷ o ∷ v ∷ e ∷ r ∷ y ∷ []
+
+-- of a log that cannot be read, or has no end
+abbrev pub cannotRead : List ℕ
+cannotRead = c ∷ a ∷ n ∷ n ∷ o ∷ t ∷ space ∷ r ∷ e ∷ a ∷ d ∷ colon ∷ space ∷ []
+
+abbrev pub tooLong : List ℕ
+tooLong = t ∷ o ∷ o ∷ space ∷ l ∷ o ∷ n ∷ g ∷ colon ∷ space ∷ []
+
+abbrev pub logWord : List ℕ
+logWord = l ∷ o ∷ g ∷ []

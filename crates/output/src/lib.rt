@@ -1,10 +1,11 @@
 // The texts that the programs print, each made whole in its room, so that one call writes it. Nothing here reads or prints.
 ghost use mathlib.Core.Path.{_≡_};
-ghost use mathlib.Core.List.{_++_};
+ghost use Prim.Native.Nat.{_≤_};
 ghost use lib.ListN.{length, take};
-ghost use Rattle.lines.specs.Lines.{wordsLine, Room, Puts};
-ghost use Rattle.output.specs.Texts.{refusedText, planText, priceText, awaitedText, sumsText, runText, textRoom, Holds};
-ghost use Rattle.output.specs.Working.Ready.{ReadyForPlan};
+ghost use Rattle.lines.specs.Lines.{numberLine, Room, Puts};
+ghost use Rattle.output.specs.Texts.{refusedText, complaintText, planText, priceText, awaitedText, sumsText, runText, longestWord, textRoom, Holds};
+ghost use Rattle.output.specs.Working.Ready.{ReadyForComplaint, ReadyForPlan};
+use lines::put;
 use lines::put_marked;
 use lines::put_numbered;
 use lines::put_words;
@@ -36,12 +37,31 @@ fn room() -> [u8; TEXT_ROOM]
     [0u8; TEXT_ROOM]
 }
 
+// A word and its number.
+pub fn numbered_text(word: &[u8], n: u64) -> Text
+    requires { ⌜ length (now word) ≤ longestWord ⌝ }
+    ensures { λ r. ⌜ Holds (numberLine (now (word .entry)) n) r ⌝ }
+{
+    let mut bytes = room();
+    let length = put_numbered(&mut bytes, 0, word, n);
+    Text { bytes, length }
+}
+
 // The number of a refusal.
 pub fn refused_text(number: u64) -> Text
     ensures { λ r. ⌜ Holds (refusedText number) r ⌝ }
 {
+    numbered_text(b"refused", number)
+}
+
+// What is wrong, and with which argument or file.
+pub fn complaint(words: &[u8], which: &[u8]) -> Text
+    requires { ⌜ ReadyForComplaint (now words) (now which) ⌝ }
+    ensures { λ r. ⌜ Holds (complaintText (now (words .entry)) (now (which .entry))) r ⌝ }
+{
     let mut bytes = room();
-    let length = put_numbered(&mut bytes, 0, b"refused", number);
+    let end = put(&mut bytes, 0, words);
+    let length = put_words(&mut bytes, end, which);
     Text { bytes, length }
 }
 
@@ -67,9 +87,7 @@ pub fn price_text(answer: Answer) -> Text
     if answer.number != ACCEPTED {
         return refused_text(answer.number);
     }
-    let mut bytes = room();
-    let length = put_numbered(&mut bytes, 0, b"time", answer.time);
-    Text { bytes, length }
+    numbered_text(b"time", answer.time)
 }
 
 // Whether a verification is awaited.

@@ -63,7 +63,7 @@ returns-2 c =
     let few : n ≤ taskLimit = start .pre .few (omega arith) in
     let fits = plan-fits (start .args .word .now) (start .args .answer .time) (take n (start .args .t3)) (start .pre .short) (omega (arith, start .good)) (omega (arith, length-take-le n (start .args .t3) (omega (arith, few, start .good)))) in
     rw (plan-accepted _ (start .args .answer) (take n (start .args .t3)) (omega arith))
-    (room-holds (room-empty (room .room .ensures) fits) (room .room .ensures) (puts-then (figure .put-numbered .ensures) (marks .put-marked .ensures)))
+    (room-holds (room-empty (room .room .ensures) fits) (puts-then (figure .put-numbered .ensures) (marks .put-marked .ensures)))
 
 pub plan-text-spec : {M : Type 1} → statement M
 plan-text-spec =

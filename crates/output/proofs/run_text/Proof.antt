@@ -26,7 +26,7 @@ returns c =
     let words : Words (start .args .place .sums) =
     record { kept = omega arith; redone = omega arith; verify = omega arith; saves = omega arith; recovery = omega arith } in
     let fits = run-fits (start .args .place) (omega arith) words in
-    room-holds (room-empty (room .room .ensures) fits) (room .room .ensures) (c .before .put-run .ensures)
+    room-holds (room-empty (room .room .ensures) fits) (c .before .put-run .ensures)
 
 pub run-text-spec : {M : Type 1} → statement M
 run-text-spec = tie.close (tie.spec room-requires slice-aggregate-put-run put-run-requires returns)
