@@ -1,16 +1,21 @@
 // Takes two powers, one for computing and verifying, one for saving and recovering, reads a job sheet from standard input and prints its plan by energy: the
 // least energy, then one digit a task; or the number of its refusal.
+ghost use Rattle.energy.specs.Prints.{SheetPrints};
 use costs::Powers;
 use header::SHEET_ROOM;
 use header::task_count;
+use output::Text;
+use output::plan_text;
 use planning::energy::plan_energy;
 use units::TASK_LIMIT;
 
-// The plan of the sheet by energy.
-fn show(sheet: &[u8], powers: Powers) {
+// What is printed for the sheet and the powers.
+fn text_of(sheet: &[u8], powers: Powers) -> Text
+    ensures { λ r. ⌜ SheetPrints powers (now (sheet .entry)) r ⌝ }
+{
     let mut marks = [0u8; TASK_LIMIT];
     let answer = plan_energy(sheet, powers, &mut marks);
-    console::plan(b"energy", answer, marks, task_count(sheet));
+    plan_text(b"energy", answer, marks, task_count(sheet))
 }
 
 // The plan of the sheet on standard input.
@@ -21,7 +26,7 @@ fn plan(powers: Powers) {
         return;
     }
     let n = taken.n;
-    show(&sheet[..n], powers);
+    console::print(text_of(&sheet[..n], powers));
 }
 
 fn main() {

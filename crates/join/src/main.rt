@@ -1,16 +1,24 @@
 // Joins the job sheets in the files that the two arguments name, and writes the joined sheet to standard output.
 // The number of a refusal, and what cannot be read, have their line on standard error.
 ghost use mathlib.Core.Path.{_≡_};
+ghost use Prim.Native.Nat.{_≤_};
+ghost use lib.ListN.{length};
+ghost use Rattle.output.specs.Texts.{lineRoom};
+ghost use Rattle.output.specs.Working.Ready.{ReadyForComplaint};
 ghost use Rattle.io.specs.Counts.{Counts};
 use console::Taken;
 use header::LONGEST_SHEET;
 use header::SHEET_ROOM;
 use libc::STDERR_FILENO;
 use libc::STDOUT_FILENO;
+use output::complaint;
+use output::refused_text;
 
 // What is wrong, and with which sheet.
-fn complain(words: &[u8], which: &[u8]) {
-    console::complain_to(STDERR_FILENO, words, which);
+fn complain(words: &[u8], which: &[u8])
+    requires { ⌜ ReadyForComplaint (now words) (now which) ⌝ }
+{
+    console::print_to(STDERR_FILENO, complaint(words, which));
 }
 
 // The joined sheet.
@@ -18,7 +26,7 @@ fn show(first: &[u8], second: &[u8]) {
     let mut sheet = [0u8; LONGEST_SHEET];
     let joined = joining::join(first, second, &mut sheet);
     if joined.number != 0 {
-        console::numbered_to(STDERR_FILENO, b"refused", joined.number);
+        console::print_to(STDERR_FILENO, refused_text(joined.number));
         return;
     }
     let n = joined.length;
@@ -40,6 +48,7 @@ fn read_file(path: &[u8], sheet: &mut [u8]) -> Taken
 
 // The sheet in the file that argument i names; one that cannot be read has its line.
 fn read_sheet(i: usize, which: &[u8], sheet: &mut [u8]) -> Taken
+    requires { ⌜ length (now which) ≤ lineRoom ⌝ }
     ensures { λ r. ⌜ Counts (r .n) (now (sheet .exit)) ⌝ }
 {
     let mut path = io::buffer();

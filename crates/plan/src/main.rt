@@ -1,13 +1,18 @@
 // Reads a job sheet from standard input and prints its plan: the least time, then one digit a task; or the number of its refusal.
+ghost use Rattle.plan.specs.Prints.{SheetPrints};
 use header::SHEET_ROOM;
 use header::task_count;
+use output::Text;
+use output::plan_text;
 use units::TASK_LIMIT;
 
-// The plan of the sheet.
-fn show(sheet: &[u8]) {
+// What is printed for the sheet.
+fn text_of(sheet: &[u8]) -> Text
+    ensures { λ r. ⌜ SheetPrints (now (sheet .entry)) r ⌝ }
+{
     let mut marks = [0u8; TASK_LIMIT];
     let answer = planning::plan(sheet, &mut marks);
-    console::plan(b"time", answer, marks, task_count(sheet));
+    plan_text(b"time", answer, marks, task_count(sheet))
 }
 
 fn main() {
@@ -17,5 +22,5 @@ fn main() {
         return;
     }
     let n = taken.n;
-    show(&sheet[..n]);
+    console::print(text_of(&sheet[..n]));
 }

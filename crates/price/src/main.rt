@@ -1,15 +1,16 @@
 // Prints the time of the marks, given as digits in the first argument, under the job sheet on standard input; or the number of their refusal.
+ghost use Rattle.pricing.specs.Price.{priceOf};
+ghost use Rattle.output.specs.Texts.{priceText, Holds};
 use console::ARGUMENT_ROOM;
 use header::SHEET_ROOM;
+use output::Text;
+use output::price_text;
 
-// The price of the marks.
-fn show(sheet: &[u8], marks: &[u8]) {
-    let answer = pricing::price(sheet, marks);
-    if answer.number != 0 {
-        console::refused(answer.number);
-        return;
-    }
-    console::numbered(b"time", answer.time);
+// What is printed for the sheet and the marks.
+fn text_of(sheet: &[u8], marks: &[u8]) -> Text
+    ensures { λ r. ⌜ Holds (priceText (priceOf (now (sheet .entry)) (now (marks .entry)))) r ⌝ }
+{
+    price_text(pricing::price(sheet, marks))
 }
 
 // The price of the marks under the sheet on standard input.
@@ -20,12 +21,12 @@ fn price(marks: &[u8]) {
         return;
     }
     let n = taken.n;
-    show(&sheet[..n], marks);
+    console::print(text_of(&sheet[..n], marks));
 }
 
 fn main() {
     if os::arg_count() < 2 {
-        console::line(b"missing argument: marks");
+        console::complain(b"missing argument: ", b"marks");
         return;
     }
     let mut marks = [0u8; ARGUMENT_ROOM];

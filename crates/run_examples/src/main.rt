@@ -1,7 +1,12 @@
 // Runs the examples of document 01 that are not starred, and prints what each gives; the starred ones are proved (`starred-examples`, in the crate `examples`).
+ghost use Prim.Native.Nat.{_≤_};
+ghost use lib.ListN.{length};
+ghost use Rattle.output.specs.Texts.{longestWord};
 ghost use Rattle.io.specs.Counts.{Counts};
 use header::SHEET_ROOM;
 use libc::STDOUT_FILENO;
+use output::numbered_text;
+use output::price_text;
 use units::TASK_LIMIT;
 
 // More than the log of the example has.
@@ -17,6 +22,13 @@ fn read_file(name: &[u8], buffer: &mut [u8]) -> usize
     n
 }
 
+// A word and its number.
+fn numbered(word: &[u8], n: u64)
+    requires { ⌜ length (now word) ≤ longestWord ⌝ }
+{
+    console::print(numbered_text(word, n));
+}
+
 // The least time of the sheet in the file, or its refusal.
 fn plan(name: &[u8]) {
     let mut sheet = [0u8; SHEET_ROOM];
@@ -25,11 +37,7 @@ fn plan(name: &[u8]) {
     let answer = planning::plan(&sheet[..n], &mut marks);
     io::write_all(STDOUT_FILENO, name);
     io::write_all(STDOUT_FILENO, b": ");
-    if answer.number != 0 {
-        console::refused(answer.number);
-        return;
-    }
-    console::numbered(b"time", answer.time);
+    console::print(price_text(answer));
 }
 
 // The run of the sheet under marks 23 through the log.
@@ -40,13 +48,13 @@ fn follow(sheet: &[u8], log: &[u8]) {
     let fresh = followed.run;
     let place = fresh.place;
     let sums = place.sums;
-    console::numbered(b"number", followed.number);
-    console::numbered(b"position", place.position as u64);
-    console::numbered(b"kept", sums.kept);
-    console::numbered(b"redone", sums.redone);
-    console::numbered(b"verify", sums.verify);
-    console::numbered(b"saves", sums.saves);
-    console::numbered(b"recovery", sums.recovery);
+    numbered(b"number", followed.number);
+    numbered(b"position", place.position as u64);
+    numbered(b"kept", sums.kept);
+    numbered(b"redone", sums.redone);
+    numbered(b"verify", sums.verify);
+    numbered(b"saves", sums.saves);
+    numbered(b"recovery", sums.recovery);
 }
 
 fn run_of_a() {

@@ -11,11 +11,14 @@ arg-requires c κs = search needs
 errno-requires : tie.Need-errno-requires
 errno-requires c κs = search needs
 
-slice-aggregate-line : tie.Need-slice-aggregate-line
-slice-aggregate-line c = search needs
+slice-aggregate-complain : tie.Need-slice-aggregate-complain
+slice-aggregate-complain c = search needs
 
-line-requires : tie.Need-line-requires
-line-requires c κs = search needs
+slice-aggregate-complain-2 : tie.Need-slice-aggregate-complain-2
+slice-aggregate-complain-2 c = search needs
+
+complain-requires : tie.Need-complain-requires
+complain-requires c κs = search needs
 
 same-length : tie.Need-same-length
 same-length c = search needs
@@ -41,19 +44,22 @@ returns-2 c =
     let arg = c .before .before .before .before .before .before .before .before .before .arg in
     counts-front _ (to-marks .last .0) _ (to-marks .ensures .long ∙ sym (arg .ensures .1))
 
-slice-aggregate-line-2 : tie.Need-slice-aggregate-line-2
-slice-aggregate-line-2 c = search needs
+slice-aggregate-complain-3 : tie.Need-slice-aggregate-complain-3
+slice-aggregate-complain-3 c = search needs
 
-line-requires-2 : tie.Need-line-requires-2
-line-requires-2 c κs = search needs
+slice-aggregate-complain-4 : tie.Need-slice-aggregate-complain-4
+slice-aggregate-complain-4 c = search needs
+
+complain-requires-2 : tie.Need-complain-requires-2
+complain-requires-2 c κs = search needs
 
 same-length-3 : tie.Need-same-length-3
 same-length-3 c = search needs
 
 returns-3 : tie.Need-returns-3
 returns-3 c =
-    let to-marks = c .before .before .before .before .before .to-marks in
-    let arg = c .before .before .before .before .before .before .before .before .before .before .before .arg in
+    let to-marks = c .before .before .before .before .before .before .to-marks in
+    let arg = c .before .before .before .before .before .before .before .before .before .before .before .before .arg in
     counts-front _ (to-marks .last .0) _ (to-marks .ensures .long ∙ sym (arg .ensures .1))
 
 pub read-marks-spec : {M : Type 1} → statement M
@@ -62,8 +68,9 @@ read-marks-spec =
     (tie.spec
     arg-requires
     errno-requires
-    slice-aggregate-line
-    line-requires
+    slice-aggregate-complain
+    slice-aggregate-complain-2
+    complain-requires
     same-length
     returns
     slice-relend-prefix-to-marks
@@ -71,7 +78,8 @@ read-marks-spec =
     to-marks-requires
     same-length-2
     returns-2
-    slice-aggregate-line-2
-    line-requires-2
+    slice-aggregate-complain-3
+    slice-aggregate-complain-4
+    complain-requires-2
     same-length-3
     returns-3)

@@ -1,20 +1,36 @@
--- `follow::follow_log` meets its contract. The loop's invariant: the buffer keeps its length and the pieces read are within the budget; the measure is what is
--- left of the budget, 2^48. Assumes nothing.
-use Prim.Native.Nat.{_-_, _^_, _≤_}
-use mathlib.Core.Path.{_≡_}
+-- `follow::follow_log` meets its contract. The loop's invariant: the state is reached by the pieces read so far, the buffer keeps its length and the pieces are within the budget; the
+-- measure is what is left of the budget, 2^48. Assumes nothing.
+use Prim.Native.Nat.{ℕ, _-_, _^_, _≤_}
+use mathlib.Core.Path.{_≡_, _∙_}
+use mathlib.Core.Logic.{inl, inr}
+use mathlib.Core.List.{List}
+use native.Mathlib.Omega.{arith}
 use borrow.Author.Needs.{needs}
 use lib.ListN.{length}
+use Rattle.state.specs.declared.Run.{Run}
+use Rattle.follow.proofs.Pieces.{Reached, reached-none, reached-more, reached-text}
 use Rattle.follow.proofs.follow_log.Statement.{statement}
 use Rattle.follow.proofs.follow_log.Tie as tie
 
+abbrev pieceLength : ℕ
+pieceLength = 65535
+
+abbrev pieceLimit : ℕ
+pieceLimit = 2 ^ 48
+
+record Following (run state : Run) (piece : List ℕ) (i : ℕ) : Type 0 where
+  pub within : i ≤ pieceLimit
+  pub long : length piece ≡ pieceLength
+  pub reached : Reached run state
+
 abbrev Inv-loop : tie.InvT-loop
-Inv-loop file piece₀ state₀ i₀ t9 t10 piece state i = (i ≤ 2 ^ 48) × (length piece ≡ 65535)
+Inv-loop file piece₀ state₀ i₀ piece state i = Following state₀ state piece i
 
 abbrev μ-loop : tie.MeasureT-loop
-μ-loop file piece₀ state₀ i₀ t9 t10 piece state i = 2 ^ 48 - i
+μ-loop file piece₀ state₀ i₀ piece state i = pieceLimit - i
 
 loop-holds : tie.Need-loop-holds Inv-loop μ-loop
-loop-holds c = search needs
+loop-holds c = record { within = omega arith; long = search needs; reached = reached-none _ }
 
 slice-aggregate-read-all : tie.Need-slice-aggregate-read-all Inv-loop μ-loop
 slice-aggregate-read-all c = search needs
@@ -22,14 +38,11 @@ slice-aggregate-read-all c = search needs
 read-all-requires : tie.Need-read-all-requires Inv-loop μ-loop
 read-all-requires c κs = search needs
 
-slice-aggregate-line : tie.Need-slice-aggregate-line Inv-loop μ-loop
-slice-aggregate-line c = search needs
-
-line-requires : tie.Need-line-requires Inv-loop μ-loop
-line-requires c κs = search needs
+unreadable-requires : tie.Need-unreadable-requires Inv-loop μ-loop
+unreadable-requires c κs = search needs
 
 returns : tie.Need-returns Inv-loop μ-loop
-returns c = search needs
+returns c = inr (inl (c .unreadable .ensures))
 
 array-share-prefix-piece : tie.Need-array-share-prefix-piece Inv-loop μ-loop
 array-share-prefix-piece c = search needs
@@ -40,35 +53,43 @@ slice-aggregate-follow c = search needs
 follow-requires : tie.Need-follow-requires Inv-loop μ-loop
 follow-requires c κs = search needs
 
-refused-requires : tie.Need-refused-requires Inv-loop μ-loop
-refused-requires c κs = search needs
+text-of-requires : tie.Need-text-of-requires Inv-loop μ-loop
+text-of-requires c κs = search needs
 
 returns-2 : tie.Need-returns-2 Inv-loop μ-loop
-returns-2 c = search needs
+returns-2 c =
+    let follow = c .before .before .before .follow in
+    let loop = c .before .before .before .before .before .before .before .before .before .before .loop in
+    inl (reached-text _ (loop .inv .reached) (rw (follow .ensures) at (c .text-of .ensures)))
 
-show-requires : tie.Need-show-requires Inv-loop μ-loop
-show-requires c κs = search needs
+text-of-requires-2 : tie.Need-text-of-requires-2 Inv-loop μ-loop
+text-of-requires-2 c κs = search needs
 
 returns-3 : tie.Need-returns-3 Inv-loop μ-loop
-returns-3 c = search needs
+returns-3 c =
+    let follow = c .before .before .before .before .follow in
+    let loop = c .before .before .before .before .before .before .before .before .before .before .before .loop in
+    inl (reached-text _ (loop .inv .reached) (rw (follow .ensures) at (c .text-of2 .ensures)))
 
 add-i : tie.Need-add-i Inv-loop μ-loop
-add-i c = search needs
+add-i c = omega arith
 
 loop-less : tie.Need-loop-less Inv-loop μ-loop
-loop-less c = search needs
+loop-less c = omega arith
 
 loop-again : tie.Need-loop-again Inv-loop μ-loop
-loop-again c = search needs
+loop-again c =
+    let follow = c .before .before .before .before .follow in
+    let read = c .before .before .before .before .before .before .before .before .read-all in
+    let loop = c .before .before .before .before .before .before .before .before .before .before .before .loop in
+    let accepted = rw (follow .ensures) at (c .before .before .if2 .left) in
+    record { within = omega arith; long = read .kept .1 .0 ∙ loop .inv .long; reached = rw (follow .ensures) (reached-more _ accepted (loop .inv .reached)) }
 
-slice-aggregate-line-2 : tie.Need-slice-aggregate-line-2 Inv-loop μ-loop
-slice-aggregate-line-2 c = search needs
-
-line-requires-2 : tie.Need-line-requires-2 Inv-loop μ-loop
-line-requires-2 c κs = search needs
+endless-requires : tie.Need-endless-requires Inv-loop μ-loop
+endless-requires c κs = search needs
 
 returns-4 : tie.Need-returns-4 Inv-loop μ-loop
-returns-4 c = search needs
+returns-4 c = inr (inr (c .endless .ensures))
 
 pub follow-log-spec : {M : Type 1} → statement M
 follow-log-spec =
@@ -79,19 +100,17 @@ follow-log-spec =
     loop-holds
     slice-aggregate-read-all
     read-all-requires
-    slice-aggregate-line
-    line-requires
+    unreadable-requires
     returns
     array-share-prefix-piece
     slice-aggregate-follow
     follow-requires
-    refused-requires
+    text-of-requires
     returns-2
-    show-requires
+    text-of-requires-2
     returns-3
     add-i
     loop-less
     loop-again
-    slice-aggregate-line-2
-    line-requires-2
+    endless-requires
     returns-4)

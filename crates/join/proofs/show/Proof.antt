@@ -13,11 +13,11 @@ slice-aggregate-join c = search needs
 join-requires : tie.Need-join-requires
 join-requires c κs = search needs
 
-slice-aggregate-numbered-to : tie.Need-slice-aggregate-numbered-to
-slice-aggregate-numbered-to c = search needs
+refused-text-requires : tie.Need-refused-text-requires
+refused-text-requires c κs = search needs
 
-numbered-to-requires : tie.Need-numbered-to-requires
-numbered-to-requires c κs = search needs
+print-to-requires : tie.Need-print-to-requires
+print-to-requires c κs = search needs
 
 returns : tie.Need-returns
 returns c = search needs
@@ -44,8 +44,8 @@ show-spec =
     (tie.spec
     slice-aggregate-join
     join-requires
-    slice-aggregate-numbered-to
-    numbered-to-requires
+    refused-text-requires
+    print-to-requires
     returns
     array-share-prefix-sheet
     slice-aggregate-write-all

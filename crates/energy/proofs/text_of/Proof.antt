@@ -1,0 +1,40 @@
+-- `energy::text_of` meets its contract. A plan's task count is in range; the text is that of the planner's answer and of the marks in its buffer. Assumes nothing.
+use native.Mathlib.Omega.{arith}
+use Rattle.planning.proofs.ByEnergy.{energy-tasks}
+use borrow.Author.Needs.{needs}
+use Rattle.energy.proofs.text_of.Statement.{statement}
+use Rattle.energy.proofs.text_of.Tie as tie
+
+slice-aggregate-plan-energy : tie.Need-slice-aggregate-plan-energy
+slice-aggregate-plan-energy c = search needs
+
+plan-energy-requires : tie.Need-plan-energy-requires
+plan-energy-requires c κs = search needs
+
+slice-aggregate-plan-text : tie.Need-slice-aggregate-plan-text
+slice-aggregate-plan-text c = search needs
+
+task-count-requires : tie.Need-task-count-requires
+task-count-requires c κs = search needs
+
+plan-text-requires : tie.Need-plan-text-requires
+plan-text-requires c κs =
+    let planned = c .before .before .before .plan-energy in
+    record { short = omega arith; few = λ e. omega (arith, c .task-count .ensures .is, energy-tasks _ _ _ _ _ (planned .ensures) e) }
+
+returns : tie.Need-returns
+returns c =
+    let counted = c .before .task-count in
+    let planned = c .before .before .before .before .plan-energy in
+    record { answer = planned .result; marks = planned .last .1 .1 .0; promise = planned .ensures; text = rw (counted .ensures .is) at (c .plan-text .ensures) }
+
+pub text-of-spec : {M : Type 1} → statement M
+text-of-spec =
+    tie.close
+    (tie.spec
+    slice-aggregate-plan-energy
+    plan-energy-requires
+    slice-aggregate-plan-text
+    task-count-requires
+    plan-text-requires
+    returns)

@@ -1,0 +1,2 @@
+-- Logs that are read piece by piece.
+pub mod Pieces

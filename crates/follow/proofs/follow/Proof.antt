@@ -1,0 +1,30 @@
+-- `follow::follow` meets its contract. A start that is refused has its text; any other has that of its log. Assumes nothing.
+use native.Mathlib.Omega.{arith}
+use borrow.Author.Needs.{needs}
+use Rattle.follow.proofs.follow.Statement.{statement}
+use Rattle.follow.proofs.follow.Tie as tie
+
+start-requires : tie.Need-start-requires
+start-requires c κs = search needs
+
+refused-text-requires : tie.Need-refused-text-requires
+refused-text-requires c κs = search needs
+
+returns : tie.Need-returns
+returns c =
+    let start = c .before .before .before .start in
+    let number = rw (start .ensures) at (c .before .if1 .taken) in
+    record { refused = λ _. rw (start .ensures) at (c .refused-text .ensures); followed = λ e. absurd (number e) }
+
+follow-log-requires : tie.Need-follow-log-requires
+follow-log-requires c κs = search needs
+
+returns-2 : tie.Need-returns-2
+returns-2 c =
+    let start = c .before .before .before .start in
+    let number = rw (start .ensures) at (c .before .if1 .left) in
+    record { refused = λ h. absurd (omega (arith, number)); followed = λ _. rw (start .ensures) at (c .follow-log .ensures) }
+
+pub follow-spec : {M : Type 1} → statement M
+follow-spec =
+    tie.close (tie.spec start-requires refused-text-requires returns follow-log-requires returns-2)

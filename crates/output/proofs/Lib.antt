@@ -1,0 +1,3 @@
+-- Laws of the texts that are printed.
+pub mod Lengths
+pub mod Prints

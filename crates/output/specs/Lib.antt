@@ -1,0 +1,4 @@
+pub mod Letters
+pub mod Words
+pub mod Texts
+pub mod Working

@@ -1,0 +1,2 @@
+-- That a sheet has one text.
+pub mod Theorems
