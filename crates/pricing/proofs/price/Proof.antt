@@ -81,7 +81,7 @@ returns-3 c =
     let marks = sym (rw job at (marks-refusal .ensures)) ∙ if2 .left in
     let time = rw job at (setting-time .ensures) in
     refused3 .ensures
-    ∙ answered-refused _ (slow-decides _ (cut-slow time (if3 .taken)) ∙ price-time _ _ clear marks) (omega arith)
+    ∙ answered-refused _ (slow-decides _ (cut-slow time (omega (arith, if3 .taken))) ∙ price-time _ _ clear marks) (omega arith)
 
 accepted-requires : tie.Need-accepted-requires
 accepted-requires c κs = search needs
