@@ -1,10 +1,14 @@
 // What the programs read and write: a text by one write, the sheet on standard input, and marks or a number in an argument.
-ghost use mathlib.Core.Path.{_≡_};
 ghost use Prim.Native.Nat.{_≤_};
 ghost use lib.ListN.{length};
 ghost use Rattle.io.specs.Counts.{Counts};
 ghost use Rattle.output.specs.Texts.{lineRoom};
+ghost use Rattle.output.specs.Files.{FileTold};
 ghost use Rattle.output.specs.Working.Ready.{ReadyForComplaint};
+use libc::EACCES;
+use libc::EISDIR;
+use libc::ENOENT;
+use libc::STDERR_FILENO;
 use libc::STDIN_FILENO;
 use libc::STDOUT_FILENO;
 use numerals::Number;
@@ -16,6 +20,9 @@ use output::complaint;
 // Linux hands a program no argument of more than 131,071 bytes.
 pub const ARGUMENT_ROOM: usize = 131_072;
 
+// More than the word `--help` has.
+const HELP_ROOM: usize = 16;
+
 // A text, to a file by one write; whether all of it was written.
 pub fn print_to(file: i32, text: Text) -> bool
     requires { ⌜ text .length ≤ length (text .bytes) ⌝ }
@@ -25,11 +32,18 @@ pub fn print_to(file: i32, text: Text) -> bool
     io::write_all(file, &bytes[..n])
 }
 
-// A text, to standard output.
-pub fn print(text: Text) -> bool
+// That an answer could not be written, to standard error.
+pub fn unwritten() {
+    print_to(STDERR_FILENO, complaint(b"cannot write: ", b"answer"));
+}
+
+// A text, to standard output; one that cannot be written has its line on standard error.
+pub fn print(text: Text)
     requires { ⌜ text .length ≤ length (text .bytes) ⌝ }
 {
-    print_to(STDOUT_FILENO, text)
+    if !print_to(STDOUT_FILENO, text) {
+        unwritten();
+    }
 }
 
 // What is wrong, and with which argument or file, on one line.
@@ -37,6 +51,54 @@ pub fn complain(words: &[u8], which: &[u8])
     requires { ⌜ ReadyForComplaint (now words) (now which) ⌝ }
 {
     print(complaint(words, which));
+}
+
+// Whether the first argument is `--help`.
+fn is_help() -> bool {
+    let mut word = [0u8; HELP_ROOM];
+    let n = os::arg(1, &mut word);
+    if os::errno() != 0 {
+        return false;
+    }
+    check::same(&word[..n], b"--help")
+}
+
+// What the words of a call are answered by themselves: how the program is used, for a first word of `--help`, or, to a file, that they are too many. Whether
+// they were.
+pub fn answered_to(file: i32, most: usize, usage: &[u8]) -> bool {
+    if is_help() {
+        if !io::write_all(STDOUT_FILENO, usage) {
+            unwritten();
+        }
+        return true;
+    }
+    if most < os::arg_count() {
+        print_to(file, complaint(b"too many arguments", b""));
+        return true;
+    }
+    false
+}
+
+// The same, to standard output.
+pub fn answered(most: usize, usage: &[u8]) -> bool {
+    answered_to(STDOUT_FILENO, most, usage)
+}
+
+// The line of a file that could not be read, by the system's number of the error.
+pub fn unreadable(which: &[u8], path: &[u8], error: i32) -> Text
+    requires { ⌜ length (now which) ≤ lineRoom ⌝ }
+    ensures { λ r. ⌜ FileTold (now (which .entry)) (now (path .entry)) r ⌝ }
+{
+    if error == ENOENT {
+        return output::unreadable(which, path, b": missing");
+    }
+    if error == EACCES {
+        return output::unreadable(which, path, b": forbidden");
+    }
+    if error == EISDIR {
+        return output::unreadable(which, path, b": a directory");
+    }
+    output::unreadable(which, path, b"")
 }
 
 // How many bytes a read put at the start of its buffer, and whether it failed.

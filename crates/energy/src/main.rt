@@ -30,6 +30,12 @@ fn plan(powers: Powers) {
 }
 
 fn main() {
+    if console::answered(
+        3,
+        b"energy COMPUTING SAVING < SHEET\nReads two powers, 1 to 16, and a job sheet from standard input. Prints the least expected energy in ticks times units of power, then one digit a task, or one line, refused N.\nExample: energy 3 5 < crates/energy/stdin\n",
+    ) {
+        return;
+    }
     let computing = console::read_number(1, b"computing power");
     if computing.failed {
         return;

@@ -61,14 +61,14 @@ pub reached-text : {run state : Run} {r : Text} (piece : List ℕ) → Reached r
 reached-text piece reached held = record { log = reached .pieces ++ piece; text = rw (reached .same piece) held }
 
 -- whatever is printed, it is in its room
-log-within : (run : Run) (r : Text) → LogPrints run r → r .length ≤ length (r .bytes)
-log-within run r (inl t) = t .text .within
-log-within run r (inr (inl t)) = t .within
-log-within run r (inr (inr t)) = t .within
+log-within : (run : Run) (path : List ℕ) (r : Text) → LogPrints run path r → r .length ≤ length (r .bytes)
+log-within run path r (inl t) = t .text .within
+log-within run path r (inr (inl t)) = t .text .within
+log-within run path r (inr (inr t)) = t .within
 
-pub follow-within : (s marks : List ℕ) (r : Text) → FollowPrints s marks r → r .length ≤ length (r .bytes)
-follow-within s marks r prints = go (eq-zero-or-pos (startOf s marks .number))
+pub follow-within : (s marks path : List ℕ) (r : Text) → FollowPrints s marks path r → r .length ≤ length (r .bytes)
+follow-within s marks path r prints = go (eq-zero-or-pos (startOf s marks .number))
   where
     go : (startOf s marks .number ≡ 0) ⊎ (0 < startOf s marks .number) → r .length ≤ length (r .bytes)
-    go (inl e) = log-within (startOf s marks .run) r (prints .followed e)
+    go (inl e) = log-within (startOf s marks .run) path r (prints .followed e)
     go (inr h) = prints .refused h .within

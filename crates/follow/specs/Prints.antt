@@ -10,7 +10,8 @@ use Rattle.state.specs.declared.Run.{Run}
 use Rattle.following.specs.declared.Stepped.{Stepped}
 use Rattle.starting.specs.Start.{startOf}
 use Rattle.logs.specs.Log.{logOf}
-use Rattle.output.specs.Words.{cannotRead, tooLong, logWord}
+use Rattle.output.specs.Words.{tooLong, logWord}
+use Rattle.output.specs.Files.{FileTold}
 use Rattle.output.specs.Texts.{refusedText, complaintText, runText, Holds}
 use Rattle.output.specs.declared.Text.{Text}
 
@@ -25,10 +26,10 @@ pub record LogText (run : Run) (r : Text) : Type 0 where
   pub text : Holds (followedText (logOf run log)) r
 
 -- what is printed of a log: its text, or that it could not be read, or that it has no end
-abbrev pub LogPrints : Run → Text → Type 0
-LogPrints run r = LogText run r ⊎ (Holds (complaintText cannotRead logWord) r ⊎ Holds (complaintText tooLong logWord) r)
+abbrev pub LogPrints : Run → (path : List ℕ) → Text → Type 0
+LogPrints run path r = LogText run r ⊎ (FileTold logWord path r ⊎ Holds (complaintText tooLong logWord) r)
 
--- what is printed for a sheet, marks and a log: the refusal of the start, or what is printed of the log from the fresh run on
-pub record FollowPrints (s marks : List ℕ) (r : Text) : Type 0 where
+-- what is printed for a sheet, marks and the log of this name: the refusal of the start, or what is printed of the log from the fresh run on
+pub record FollowPrints (s marks path : List ℕ) (r : Text) : Type 0 where
   pub refused : 0 < startOf s marks .number → Holds (refusedText (startOf s marks .number)) r
-  pub followed : startOf s marks .number ≡ 0 → LogPrints (startOf s marks .run) r
+  pub followed : startOf s marks .number ≡ 0 → LogPrints (startOf s marks .run) path r

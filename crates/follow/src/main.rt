@@ -1,6 +1,7 @@
 // Follows a run: the marks as digits in the first argument, the name of a log file in the second, the job sheet on standard input.
 // Prints where the run stands and what it has counted, or the number of its refusal.
-ghost use Rattle.output.specs.Words.{cannotRead, tooLong, logWord};
+ghost use Rattle.output.specs.Words.{tooLong, logWord};
+ghost use Rattle.output.specs.Files.{FileTold};
 ghost use Rattle.output.specs.Texts.{complaintText, Holds};
 ghost use Rattle.follow.specs.Prints.{followedText, LogPrints, FollowPrints};
 use console::ARGUMENT_ROOM;
@@ -31,10 +32,10 @@ fn text_of(followed: Stepped) -> Text
 }
 
 // The log cannot be read.
-fn unreadable() -> Text
-    ensures { λ r. ⌜ Holds (complaintText cannotRead logWord) r ⌝ }
+fn unreadable(path: &[u8]) -> Text
+    ensures { λ r. ⌜ FileTold logWord (now (path .entry)) r ⌝ }
 {
-    complaint(b"cannot read: ", b"log")
+    console::unreadable(b"log", path, os::errno())
 }
 
 // The log has no end.
@@ -46,8 +47,8 @@ fn endless() -> Text
 
 // Follows the log piece by piece from the state given. A piece holds whole records, and one that is not full is the last.
 // After full pieces only, the last is empty: an empty log after accepted records is accepted and changes nothing.
-fn follow_log(run: Run, file: i32) -> Text
-    ensures { λ r. ⌜ LogPrints run r ⌝ }
+fn follow_log(run: Run, path: &[u8], file: i32) -> Text
+    ensures { λ r. ⌜ LogPrints run (now (path .entry)) r ⌝ }
 {
     let mut piece = [0u8; PIECE_LENGTH];
     let mut state = run;
@@ -55,7 +56,7 @@ fn follow_log(run: Run, file: i32) -> Text
     while i < MAX_PIECES {
         let taken = console::read_all(file, &mut piece);
         if taken.failed {
-            return unreadable();
+            return unreadable(path);
         }
         let n = taken.n;
         let followed = logs::follow(state, &piece[..n]);
@@ -72,36 +73,36 @@ fn follow_log(run: Run, file: i32) -> Text
 }
 
 // The run of the sheet and the marks through the log. The log is read only after both are accepted.
-fn follow(sheet: &[u8], marks: &[u8], file: i32) -> Text
-    ensures { λ r. ⌜ FollowPrints (now (sheet .entry)) (now (marks .entry)) r ⌝ }
+fn follow(sheet: &[u8], marks: &[u8], path: &[u8], file: i32) -> Text
+    ensures { λ r. ⌜ FollowPrints (now (sheet .entry)) (now (marks .entry)) (now (path .entry)) r ⌝ }
 {
     let started = starting::start(sheet, marks);
     if started.number != ACCEPTED {
         return refused_text(started.number);
     }
-    follow_log(started.run, file)
+    follow_log(started.run, path, file)
+}
+
+// The log is opened after the sheet is read.
+fn open_and_follow(sheet: &[u8], marks: &[u8], path: &[u8]) {
+    let file = os::open_read(path);
+    if file < 0 {
+        console::print(unreadable(path));
+        return;
+    }
+    console::print(follow(sheet, marks, path, file));
+    libc::close(file);
 }
 
 // The run under the sheet on standard input.
-fn read_and_follow(marks: &[u8], file: i32) {
+fn read_and_follow(marks: &[u8], path: &[u8]) {
     let mut sheet = [0u8; SHEET_ROOM];
     let taken = console::read_sheet(&mut sheet);
     if taken.failed {
         return;
     }
     let n = taken.n;
-    console::print(follow(&sheet[..n], marks, file));
-}
-
-// The log is opened before the sheet is read.
-fn open_and_follow(marks: &[u8], path: &[u8]) {
-    let file = os::open_read(path);
-    if file < 0 {
-        console::complain(b"cannot read: ", b"log");
-        return;
-    }
-    read_and_follow(marks, file);
-    libc::close(file);
+    open_and_follow(&sheet[..n], marks, path);
 }
 
 // The log that the second argument names.
@@ -112,10 +113,16 @@ fn take_path(marks: &[u8]) {
         console::complain(b"argument too long: ", b"log");
         return;
     }
-    open_and_follow(marks, &path[..n]);
+    read_and_follow(marks, &path[..n]);
 }
 
 fn main() {
+    if console::answered(
+        3,
+        b"follow MARKS LOG < SHEET\nReads marks, one digit a task, the name of a log, and a job sheet from standard input. Prints where the run stands after the events of the log and what it has counted, in ticks, or one line, refused N.\nExample: follow 23 crates/follow/data/log < crates/plan/stdin\n",
+    ) {
+        return;
+    }
     let count = os::arg_count();
     if count < 2 {
         console::complain(b"missing argument: ", b"marks");

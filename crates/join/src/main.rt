@@ -30,18 +30,25 @@ fn show(first: &[u8], second: &[u8]) {
         return;
     }
     let n = joined.length;
-    io::write_all(STDOUT_FILENO, &sheet[..n]);
+    if !io::write_all(STDOUT_FILENO, &sheet[..n]) {
+        console::unwritten();
+    }
 }
 
-// The sheet in the file of this name.
-fn read_file(path: &[u8], sheet: &mut [u8]) -> Taken
+// The sheet in the file of this name; one that cannot be read has its line.
+fn read_file(which: &[u8], path: &[u8], sheet: &mut [u8]) -> Taken
+    requires { ⌜ length (now which) ≤ lineRoom ⌝ }
     ensures { λ r. ⌜ Counts (r .n) (now (sheet .exit)) ⌝ }
 {
     let file = os::open_read(path);
     if file < 0 {
+        console::print_to(STDERR_FILENO, console::unreadable(which, path, os::errno()));
         return Taken { n: 0, failed: true };
     }
     let taken = console::read_all(file, sheet);
+    if taken.failed {
+        console::print_to(STDERR_FILENO, console::unreadable(which, path, os::errno()));
+    }
     libc::close(file);
     taken
 }
@@ -57,11 +64,7 @@ fn read_sheet(i: usize, which: &[u8], sheet: &mut [u8]) -> Taken
         complain(b"argument too long: ", which);
         return Taken { n: 0, failed: true };
     }
-    let taken = read_file(&path[..n], sheet);
-    if taken.failed {
-        complain(b"cannot read: ", which);
-    }
-    taken
+    read_file(which, &path[..n], sheet)
 }
 
 // The first sheet with the one that the second argument names.
@@ -76,6 +79,13 @@ fn join_second(first: &[u8]) {
 }
 
 fn main() {
+    if console::answered_to(
+        STDERR_FILENO,
+        3,
+        b"join FIRST SECOND > SHEET\nReads two job sheets of one platform that run as one booking. Writes one sheet, the first's weights and then the second's, to standard output; refused N and any other line goes to standard error.\nExample: join crates/join/data/screen crates/join/data/classify | plan\n",
+    ) {
+        return;
+    }
     let count = os::arg_count();
     if count < 2 {
         complain(b"missing argument: ", b"first sheet");

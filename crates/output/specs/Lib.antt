@@ -1,4 +1,5 @@
 pub mod Letters
 pub mod Words
 pub mod Texts
+pub mod Files
 pub mod Working

@@ -74,9 +74,13 @@ lineRoom = longestWord + wordDigits + 2
 abbrev pub runLines : ℕ
 runLines = 7
 
--- the room that a text has: the lines of a run, and a digit for each task
+-- the longest name of a file
+abbrev pub pathRoom : ℕ
+pathRoom = 4096
+
+-- the room that a text has: the lines of a run, a digit for each task, and the name of a file
 abbrev pub textRoom : ℕ
-textRoom = runLines * lineRoom + taskLimit
+textRoom = runLines * lineRoom + taskLimit + pathRoom
 
 -- a fresh buffer, which a program lends to a planner: a byte for each task that a sheet can have
 abbrev pub fresh : List ℕ

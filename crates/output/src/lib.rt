@@ -1,4 +1,7 @@
 // The texts that the programs print, each made whole in its room, so that one call writes it. Nothing here reads or prints.
+mod files;
+
+pub use files::unreadable;
 ghost use mathlib.Core.Path.{_≡_};
 ghost use Prim.Native.Nat.{_≤_};
 ghost use lib.ListN.{length, take};
@@ -21,8 +24,11 @@ const LINE_ROOM: usize = 8 + 20 + 2;
 // The lines of a run.
 const RUN_LINES: usize = 7;
 
-// The lines of a run, and a digit for each task.
-pub const TEXT_ROOM: usize = RUN_LINES * LINE_ROOM + TASK_LIMIT;
+// The longest name of a file.
+pub const PATH_ROOM: usize = 4096;
+
+// The lines of a run, a digit for each task, and the name of a file.
+pub const TEXT_ROOM: usize = RUN_LINES * LINE_ROOM + TASK_LIMIT + PATH_ROOM;
 
 // A text: the first bytes of its room, and how many they are.
 pub struct Text {

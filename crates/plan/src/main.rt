@@ -16,6 +16,12 @@ fn text_of(sheet: &[u8]) -> Text
 }
 
 fn main() {
+    if console::answered(
+        1,
+        b"plan < SHEET\nReads a job sheet from standard input. Prints the least expected time in ticks, then one digit a task:\n0 nothing, 1 a verification, 2 a copy in memory too, 3 a copy on disk too. Or one line, refused N.\nExample: plan < crates/plan/stdin\n",
+    ) {
+        return;
+    }
     let mut sheet = [0u8; SHEET_ROOM];
     let taken = console::read_sheet(&mut sheet);
     if taken.failed {

@@ -25,6 +25,12 @@ fn price(marks: &[u8]) {
 }
 
 fn main() {
+    if console::answered(
+        2,
+        b"price MARKS < SHEET\nReads marks, one digit a task, and a job sheet from standard input. Prints the expected time in ticks under these marks, or one line, refused N.\nExample: price 23 < crates/plan/stdin\n",
+    ) {
+        return;
+    }
     if os::arg_count() < 2 {
         console::complain(b"missing argument: ", b"marks");
         return;

@@ -17,6 +17,12 @@ fn text_of(sheet: &[u8]) -> Text
 }
 
 fn main() {
+    if console::answered(
+        1,
+        b"printed < SHEET\nReads a job sheet of up to 8 tasks from standard input. Prints what plan prints, worked out by the equations of the paper as printed.\nExample: printed < crates/plan/stdin\n",
+    ) {
+        return;
+    }
     let mut sheet = [0u8; SHEET_ROOM];
     let taken = console::read_sheet(&mut sheet);
     if taken.failed {

@@ -24,10 +24,10 @@ record Following (run state : Run) (piece : List ℕ) (i : ℕ) : Type 0 where
   pub reached : Reached run state
 
 abbrev Inv-loop : tie.InvT-loop
-Inv-loop file piece₀ state₀ i₀ piece state i = Following state₀ state piece i
+Inv-loop path file piece₀ state₀ i₀ piece state i = Following state₀ state piece i
 
 abbrev μ-loop : tie.MeasureT-loop
-μ-loop file piece₀ state₀ i₀ piece state i = pieceLimit - i
+μ-loop path file piece₀ state₀ i₀ piece state i = pieceLimit - i
 
 loop-holds : tie.Need-loop-holds Inv-loop μ-loop
 loop-holds c = record { within = omega arith; long = search needs; reached = reached-none _ }

@@ -35,8 +35,14 @@ slice-aggregate-write-all c =
 write-all-requires : tie.Need-write-all-requires
 write-all-requires c κs = search needs
 
+unwritten-requires : tie.Need-unwritten-requires
+unwritten-requires c κs = search needs
+
 returns-2 : tie.Need-returns-2
 returns-2 c = search needs
+
+returns-3 : tie.Need-returns-3
+returns-3 c = search needs
 
 pub show-spec : {M : Type 1} → statement M
 show-spec =
@@ -50,4 +56,6 @@ show-spec =
     array-share-prefix-sheet
     slice-aggregate-write-all
     write-all-requires
-    returns-2)
+    unwritten-requires
+    returns-2
+    returns-3)
