@@ -126,6 +126,9 @@ number-one : (n : ℕ) → numberTo (digit n ∷ []) (length (digit n ∷ [])) �
 unfolding numberTo
 number-one n = omega arith
 
+pub decimal-least : (n j : ℕ) → j < length (decimal n) → zero-code ≤ getD (decimal n) j 0
+decimal-least n j h = digits-of n j h .least
+
 decimal-value : (n : ℕ) → numberTo (decimal n) (length (decimal n)) ≡ n
 decimal-value =
     by-digits (λ n. numberTo (decimal n) (length (decimal n)) ≡ n) (λ n h. rw (decimal-digit n h) (number-one n))
