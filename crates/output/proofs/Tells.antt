@@ -1,7 +1,7 @@
 -- The text of an answer tells the answer: its first letter says whether there is a refusal, the digits up to the end of the first line are the number or the
 -- figure, and those of the second line are the marks. Two lines that are the same are the same up to their ends, since a digit is no end of a line.
 -- Assumes nothing.
-use Prim.Native.Nat.{ℕ, zero, suc, _+_, _%_, _≤_, _<_}
+use Prim.Native.Nat.{ℕ, zero, suc, _+_, _%_, _<_}
 use mathlib.Core.Path.{_≡_, refl, sym, _∙_, ap}
 use mathlib.Core.Logic.{_≢_}
 use mathlib.Core.List.{List, [], _∷_, _++_, append-assoc}
@@ -10,7 +10,7 @@ use native.Mathlib.Omega.{arith}
 use lib.ListN.{length, getD}
 use Rattle.refusals.specs.Numbers
 use Rattle.refusals.specs.declared.Answer.{Answer}
-use Rattle.numerals.specs.Digits.{zero-code, base}
+use Rattle.numerals.specs.Digits.{base}
 use Rattle.numerals.specs.Decimal.{digit, decimal}
 use Rattle.numerals.proofs.Decimals.{decimal-once, decimal-least}
 use Rattle.lines.specs.Lines.{space, newline, numberLine, markDigits, marksLine}
