@@ -1,4 +1,6 @@
--- Laws of the texts that are printed.
+-- Laws of the texts that are printed, and examples.
 pub mod Lengths
 pub mod Prints
 pub mod Names
+pub mod Tells
+pub mod Examples
