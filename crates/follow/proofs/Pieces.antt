@@ -1,7 +1,7 @@
 -- A log that is followed piece by piece has the text of the whole log: where the pieces so far were accepted, any bytes after them have the same text from the
 -- state reached and as one log from the first state (`two-logs`). Assumes nothing.
 use Prim.Native.Nat.{ℕ, _<_, _≤_}
-use mathlib.Core.Path.{_≡_, refl, sym, _∙_, ap}
+use mathlib.Core.Path.{_≡_, refl, _∙_, ap}
 use mathlib.Core.Bool.{Bool, true, false, cond}
 use mathlib.Core.List.{List, [], _++_, append-assoc}
 use mathlib.Core.Logic.{_⊎_, inl, inr}

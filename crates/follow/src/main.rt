@@ -20,13 +20,13 @@ const PIECE_LENGTH: usize = 65_535;
 const MAX_PIECES: u64 = 1 << 48;
 
 // What following a log gave: where the run stands and what it has counted, or the number of its refusal.
-fn text_of(followed: Stepped) -> Text
-    ensures { λ r. ⌜ Holds (followedText followed) r ⌝ }
+fn text_of(stepped: Stepped) -> Text
+    ensures { λ r. ⌜ Holds (followedText stepped) r ⌝ }
 {
-    if followed.number != ACCEPTED {
-        return refused_text(followed.number);
+    if stepped.number != ACCEPTED {
+        return refused_text(stepped.number);
     }
-    let run = followed.run;
+    let run = stepped.run;
     run_text(run.place)
 }
 

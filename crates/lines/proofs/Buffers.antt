@@ -1,25 +1,16 @@
 -- Texts put into a buffer one after the other are one text, and the bytes up to its end are what stood before it, and the text. Assumes nothing.
-use Prim.Native.Nat.{ℕ, suc, _+_, _/_, _%_, _≤_, _<_}
-use mathlib.Core.Path.{_≡_, refl, sym, _∙_}
+use Prim.Native.Nat.{ℕ, _+_, _/_, _%_, _≤_, _<_}
+use mathlib.Core.Path.{_≡_, refl, _∙_}
 use mathlib.Core.List.{List, [], _∷_, _++_}
-use native.Mathlib.Nat.{zero-add}
 use native.Mathlib.Numerals.{add-one}
 use native.Mathlib.Omega.{arith}
 use lib.ListN.{length, take, drop, set, getD, length-append}
-use lib.Seq.{sets, sets-eq, length-sets, take-at, take-suc, take-all, length-take-le}
+use lib.Seq.{sets-eq, length-sets, take-at, take-suc, take-all, length-take-le}
+use Rattle.fields.proofs.Stores.{sets-append}
 use Rattle.numerals.specs.Digits.{base}
 use Rattle.numerals.specs.Decimal.{digit, decimal}
 use Rattle.numerals.proofs.Decimals.{decimal-digit, decimal-more}
 use Rattle.lines.specs.Lines.{Room, Puts}
-
--- a second run of stores that starts where the first ends
-sets-append : (l m b : List ℕ) (at next : ℕ) → next ≡ at + length l → sets (sets b at l) next m ≡ sets b at (l ++ m)
-sets-append [] m b at next e = let q : next ≡ at = omega arith in rw q refl
-sets-append (x ∷ l) m b at next e = sets-append l m (set b at x) (suc at) next (omega arith)
-
--- nothing is put
-pub puts-none : (b : List ℕ) (at : ℕ) → Puts b b at at []
-puts-none b at = record { ends = omega arith; stored = refl }
 
 -- a byte
 pub puts-byte : (b : List ℕ) (at x : ℕ) → Puts b (set b at x) at (at + 1) (x ∷ [])

@@ -1,23 +1,22 @@
--- The decimal digits of a number: the two laws that remove the count of divisions, and that reading the digits gives the number back. Each law goes by
+-- The decimal digits of a number: the two laws that remove the count of divisions, and that reading the digits gives the number back, and no other text does. Each law goes by
 -- `by-digits`: it holds of numbers of one digit, and of a number where it holds of its quotient by ten. Assumes nothing.
 use Prim.Native.Nat.{ℕ, zero, suc, _+_, _-_, _*_, _/_, _%_, _^_, _≤_, _<_}
 use mathlib.Core.Path.{_≡_, refl, sym, _∙_, ap}
-use mathlib.Core.Bool.{Bool, true, false, not, _&&_}
+use mathlib.Core.Bool.{true, false, not, false≢true}
 use mathlib.Core.List.{List, [], _∷_, _++_}
-use mathlib.Core.Logic.{_⊎_, inl, inr}
-use native.Mathlib.Nat.{pow-suc, eq-or-lt-of-le}
+use native.Mathlib.Nat.{pow-suc}
 use native.Mathlib.Decide.{decLt}
 use native.Mathlib.Omega.{arith}
 use borrow.Author.Tests.{lt-ltb, le-ltb, ne-eqb}
-use lib.Dec.{lit≤, eqb}
-use lib.ListN.{length, getD, length-append, List·getD-append}
-use lib.Seq.{getD-at}
+use lib.Dec.{eqb}
+use lib.ListN.{length, getD, take, length-append, List·getD-append}
+use lib.Seq.{getD-at, take-suc, take-all}
 use Rattle.lists.specs.Lists.{some}
-use Rattle.lists.proofs.Lists.{some-none}
+use Rattle.lists.proofs.Lists.{and-holds, some-none, some-fails}
 use Rattle.numerals.specs.Digits.{zero-code, nine-code, base, noDigit, isNumber, numberTo, wordMost, NumberOf}
 use Rattle.numerals.specs.Decimal.{digit, decimalBy, decimal, wordDigits, Reads}
 use Rattle.numerals.specs.declared.Number.{Number}
-use Rattle.numerals.proofs.Texts.{digit-is, within-word}
+use Rattle.numerals.proofs.Texts.{digit-is, digit-least, digit-most, none-such, within-word}
 
 -- a number of one digit
 by-one : (k n : ℕ) → n < base → decimalBy (suc k) n ≡ digit n ∷ []
@@ -126,6 +125,9 @@ number-one : (n : ℕ) → numberTo (digit n ∷ []) (length (digit n ∷ [])) �
 unfolding numberTo
 number-one n = omega arith
 
+pub decimal-least : (n j : ℕ) → j < length (decimal n) → zero-code ≤ getD (decimal n) j 0
+decimal-least n j h = digits-of n j h .least
+
 decimal-value : (n : ℕ) → numberTo (decimal n) (length (decimal n)) ≡ n
 decimal-value =
     by-digits (λ n. numberTo (decimal n) (length (decimal n)) ≡ n) (λ n h. rw (decimal-digit n h) (number-one n))
@@ -173,3 +175,53 @@ decimal-short (suc k) n h = go (decLt n base) (decimal-short k (n / base))
 
 pub decimal-word : (n : ℕ) → n ≤ wordMost → length (decimal n) ≤ wordDigits
 decimal-word n h = decimal-short 19 n (omega arith)
+
+-- the bytes of a number are digits
+bytes-of : (text : List ℕ) → isNumber text ≡ true → Bytes Digit text
+unfolding isNumber
+bytes-of text e j h =
+    let none = none-such (some (length text) (noDigit text)) (sym (and-holds (not (eqb (length text) 0)) (not (some (length text) (noDigit text))) e .1)) in
+    let here = some-fails (length text) (noDigit text) none j h in
+    record { least = digit-least text j here; most = digit-most text j here }
+
+some-byte : (text : List ℕ) → isNumber text ≡ true → 0 < length text
+unfolding isNumber
+some-byte [] e = absurd (false≢true e)
+some-byte (x ∷ text) e = omega arith
+
+module _ (text : List ℕ) (each : Bytes Digit text) where
+  -- a first digit that is not 0 makes the number positive
+  front-positive : (k : ℕ) → suc k ≤ length text → zero-code < getD text 0 0 → 0 < numberTo text (suc k)
+  unfolding numberTo
+  front-positive zero h lead = omega arith
+  front-positive (suc k) h lead = omega (arith, front-positive k (omega arith) lead)
+
+  -- the first digits are those of their number
+  front-decimal : (1 < length text → zero-code < getD text 0 0) → (k : ℕ) → suc k ≤ length text → take (suc k) text ≡ decimal (numberTo text (suc k))
+  unfolding numberTo
+  front-decimal lead zero h =
+      let d = each 0 (omega arith) in
+      let x : base * 0 + (getD text 0 0 - zero-code) ≡ getD text 0 0 - zero-code = omega arith in
+      let back : digit (getD text 0 0 - zero-code) ≡ getD text 0 0 = omega (arith, d .least) in
+      take-suc text 0 0 (omega arith) ∙ rw (x, decimal-digit (getD text 0 0 - zero-code) (omega (arith, d .most)), back) refl
+  front-decimal lead (suc k) h = go (numberTo text (suc k)) (front-positive k (omega arith) (lead (omega arith))) (front-decimal lead k (omega arith))
+    where
+      d : Digit (getD text (suc k) 0)
+      d = each (suc k) (omega arith)
+
+      go : (q : ℕ) → 0 < q → take (suc k) text ≡ decimal q → take (suc (suc k)) text ≡ decimal (base * q + (getD text (suc k) 0 - zero-code))
+      go q positive before =
+          let v : ℕ = base * q + (getD text (suc k) 0 - zero-code) in
+          let quotient : v / base ≡ q = omega (arith, d .most) in
+          let rest : digit (v % base) ≡ getD text (suc k) 0 = omega (arith, d .least, d .most) in
+          take-suc text (suc k) 0 (omega arith) ∙ (rw before (sym (decimal-more v (omega arith) ∙ rw (quotient, rest) refl)))
+
+-- the text of a number is the only one that is read so
+pub decimal-unique : (text : List ℕ) (n : ℕ) → Reads text n → text ≡ decimal n
+decimal-unique text n reads = go (length text) refl (some-byte text (reads .number))
+  where
+    go : (l : ℕ) → length text ≡ l → 0 < length text → text ≡ decimal n
+    go zero e h = absurd (omega arith)
+    go (suc k) e h =
+        sym (take-all (suc k) text (omega arith))
+        ∙ (front-decimal text (bytes-of text (reads .number)) (reads .leads) k (omega arith) ∙ ap decimal (rw e at (reads .value)))

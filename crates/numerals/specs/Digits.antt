@@ -1,11 +1,10 @@
--- Marks as text, one digit a task, and numbers as text.
-use Prim.Native.Nat.{ℕ, zero, suc, _+_, _-_, _*_, _%_, _<_, _^_}
+-- The marks of a text, one digit a task, and the number of a text.
+use Prim.Native.Nat.{ℕ, zero, suc, _+_, _-_, _*_, _<_, _^_}
 use mathlib.Core.Path.{_≡_}
 use mathlib.Core.Bool.{Bool, true, false, cond, not, _||_, _&&_}
 use mathlib.Core.List.{List}
 use lib.Dec.{ltb, eqb}
 use lib.ListN.{length, getD}
-use Rattle.units.specs.Limits.{taskLimit}
 use Rattle.lists.specs.Lists.{some}
 use Rattle.numerals.specs.declared.Number.{Number}
 
@@ -23,11 +22,6 @@ base = 10
 -- the byte is no digit
 unfoldable pub noDigit : List ℕ → ℕ → Bool
 noDigit text j = ltb (getD text j 0) zero-code || ltb nine-code (getD text j 0)
-
--- the text of marks: the digit of each mark's last decimal place. Marks are 0 to 3, so it is the mark itself
-pub record TextOf (l text : List ℕ) : Type 0 where
-  pub long : length text ≡ taskLimit
-  pub digit : (j : ℕ) → j < taskLimit → getD text j 0 ≡ zero-code + getD l j 0 % base
 
 -- the marks of a text of digits, in its place
 pub record MarksOf (text after : List ℕ) (ok : Bool) : Type 0 where

@@ -1,37 +1,20 @@
-// Digits and numbers: marks as text and back, and the number that a text gives. Nothing here reads or prints.
+// Digits and numbers: the marks and the number that a text gives. Nothing here reads or prints.
 ghost use mathlib.Core.Path.{_≡_};
 ghost use mathlib.Core.Bool.{true, false, not};
 ghost use Prim.Native.Nat.{_+_, _*_, _<_};
 ghost use lib.ListN.{length};
 ghost use Rattle.lists.specs.Lists.{some};
-ghost use Rattle.numerals.specs.Digits.{base, noDigit, TextOf, MarksOf, numberTo, inWord, NumberOf};
-use units::TASK_LIMIT;
+ghost use Rattle.numerals.specs.Digits.{base, noDigit, MarksOf, numberTo, inWord, NumberOf};
 
 const ZERO: u8 = b'0';
 
 const NINE: u8 = b'9';
 
 // Digits are decimal.
-const BASE: u8 = 10;
-
-// The same, for numbers of 64 bits.
-const WORD_BASE: u64 = 10;
+const BASE: u64 = 10;
 
 // The greatest number of 64 bits.
 const WORD_MOST: u64 = 18_446_744_073_709_551_615;
-
-// The digit of each mark.
-pub fn digits(marks: [u8; TASK_LIMIT]) -> [u8; TASK_LIMIT]
-    ensures { λ r. ⌜ TextOf marks r ⌝ }
-{
-    let mut text = [0u8; TASK_LIMIT];
-    let mut j: usize = 0;
-    while j < TASK_LIMIT {
-        text[j] = ZERO + marks[j] % BASE;
-        j += 1;
-    }
-    text
-}
 
 // Whether every byte of the text is a digit.
 fn is_digits(text: &[u8]) -> bool
@@ -86,10 +69,10 @@ fn with_digit(n: u64, digit: u8) -> u64
     ensures { λ r. ⌜ r ≡ inWord (base * n + digit) ⌝ }
 {
     let digit = digit as u64;
-    if (WORD_MOST - digit) / WORD_BASE < n {
+    if (WORD_MOST - digit) / BASE < n {
         return WORD_MOST;
     }
-    WORD_BASE * n + digit
+    BASE * n + digit
 }
 
 // The number that a text of digits gives.

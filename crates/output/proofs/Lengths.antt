@@ -1,12 +1,12 @@
 -- No text is longer than its room, and a text put into an empty room from its start is what the room holds. Assumes nothing.
 use Prim.Native.Nat.{ℕ, _+_, _*_, _≤_}
-use mathlib.Core.Path.{_≡_, refl, sym}
+use mathlib.Core.Path.{_≡_, refl}
 use mathlib.Core.Bool.{Bool, true, false, cond}
 use mathlib.Core.List.{List, _∷_, _++_}
 use native.Mathlib.Omega.{arith}
 use borrow.Author.Tests.{eq-eqb, ne-eqb}
 use lib.Dec.{eqb}
-use lib.ListN.{length, length-append}
+use lib.ListN.{length, take, length-append, length-take}
 use Rattle.units.specs.Limits.{taskLimit}
 use Rattle.refusals.specs.Numbers
 use Rattle.refusals.specs.declared.Answer.{Answer}
@@ -16,10 +16,9 @@ use Rattle.numerals.specs.Digits.{wordMost}
 use Rattle.lines.specs.Lines.{space, wordsLine, numberLine, marksLine, Room, Puts}
 use Rattle.lines.proofs.Lines.{numbered-most, length-words, length-marked}
 use Rattle.lines.proofs.Buffers.{puts-text, puts-length}
-use Rattle.output.specs.Words.{marksWord, keptWord, redoneWord, verifyWord, savesWord, recoveryWord, positionWord, awaitedWord, yesWord, noWord, refusedWord, timeWord}
+use Rattle.output.specs.Words.{marksWord, keptWord, redoneWord, verifyWord, savesWord, recoveryWord, positionWord, awaitedWord, yesWord, noWord, timeWord}
 use Rattle.output.specs.Texts.{refusedText, complaintText, planText, priceText, awaitedText, sumsText, runText, longestWord, lineRoom, textRoom, Holds}
 use Rattle.output.specs.Working.Ready.{ReadyForComplaint}
-use Rattle.output.specs.declared.Text.{Text}
 
 -- an empty room takes each text that is short enough
 pub room-empty : {a text : List ℕ} → textRoom ≡ length a → length text ≤ textRoom → Room a 0 text
@@ -42,10 +41,16 @@ unfolding complaintText
 complaint-fits words which ready = omega (arith, length-append words (wordsLine which), length-words which, ready .words-short, ready .which-short)
 
 -- the line of a time or an energy, and the marks
-pub plan-fits : (word : List ℕ) (time : ℕ) (marks : List ℕ) → length word ≤ longestWord → time ≤ wordMost → length marks ≤ taskLimit
-    → length (numberLine word time ++ marksLine marksWord marks) ≤ textRoom
-plan-fits word time marks short h few =
-    omega (arith, length-append (numberLine word time) (marksLine marksWord marks), line-fits word time short h, length-marked marksWord marks)
+pub plan-fits : (word : List ℕ) (time : ℕ) (marks : List ℕ) (n : ℕ) → length word ≤ longestWord → time ≤ wordMost → n ≤ taskLimit
+    → length (numberLine word time ++ marksLine marksWord (take n marks)) ≤ textRoom
+plan-fits word time marks n short h few =
+    omega (
+      arith,
+      length-append (numberLine word time) (marksLine marksWord (take n marks)),
+      line-fits word time short h,
+      length-marked marksWord (take n marks),
+      length-take n marks,
+    )
 
 awaited-fits : (awaiting : ℕ) → length (awaitedText awaiting) ≤ lineRoom
 unfolding awaitedText

@@ -79,21 +79,21 @@ abbrev pub textRoom : ℕ
 textRoom = runLines * lineRoom + taskLimit
 
 -- a fresh buffer, which a program lends to a planner: a byte for each task that a sheet can have
-abbrev pub fresh : List ℕ
-fresh = replicate taskLimit 0
+abbrev pub blankMarks : List ℕ
+blankMarks = replicate taskLimit 0
 
 -- what is printed of a text in its room: the bytes before its end
-abbrev pub printed : Text → List ℕ
-printed text = take (text .length) (text .bytes)
+abbrev pub textOf : Text → List ℕ
+textOf text = take (text .length) (text .bytes)
 
 -- a text in its room
 pub record Holds (text : List ℕ) (r : Text) : Type 0 where
   pub within : r .length ≤ length (r .bytes)
-  pub bytes : printed r ≡ text
+  pub bytes : textOf r ≡ text
 
 -- what a planner's program prints: the text of an answer and of marks that keep the planner's promise for a fresh buffer
 pub record PlanPrints (Promise : (before after : List ℕ) → Answer → Type 0) (word : List ℕ) (n : ℕ) (r : Text) : Type 0 where
   pub answer : Answer
   pub marks : List ℕ
-  pub promise : Promise fresh marks answer
+  pub promise : Promise blankMarks marks answer
   pub text : Holds (planText word answer (take n marks)) r

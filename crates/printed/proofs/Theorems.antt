@@ -6,7 +6,6 @@ use mathlib.Core.List.{List}
 use mathlib.Core.Logic.{_⊎_, inl, inr, _≢_}
 use native.Mathlib.Nat.{eq-zero-or-pos}
 use native.Mathlib.Omega.{arith}
-use lib.ListN.{take}
 use Rattle.refusals.specs.Numbers
 use Rattle.refusals.specs.declared.Answer.{Answer}
 use Rattle.header.specs.Header.{tasks}
@@ -20,7 +19,7 @@ use Rattle.engine.specs.Promise.{printedLimit, printedRefusal, PlansAsPrinted}
 use Rattle.engine.proofs.Answers.{printed-sheet}
 use Rattle.engine.proofs.Theorems.{printed-is-plan}
 use Rattle.output.specs.Words.{timeWord}
-use Rattle.output.specs.Texts.{fresh, printed, planText, PlanPrints}
+use Rattle.output.specs.Texts.{blankMarks, textOf, PlanPrints}
 use Rattle.output.specs.declared.Text.{Text}
 use Rattle.output.proofs.Prints.{holds-once, prints-once}
 use Rattle.printed.specs.Prints.{SheetPrints}
@@ -34,16 +33,16 @@ module _ (s : List ℕ) where
       go (inl e) = e
       go (inr h) = absurd (omega (arith, printed-sheet s h))
 
-  once : (a b : List ℕ) (x y : Answer) → PlansAsPrinted s fresh a x → PlansAsPrinted s fresh b y → (x ≡ y) × (a ≡ b)
-  once = checked-once (printedRefusal s) (chainOf (jobOf s)) (S-rises (jobOf s)) (jobOf s .tasks) (λ z. some-task s (clear-sheet z)) fresh
+  once : (a b : List ℕ) (x y : Answer) → PlansAsPrinted s blankMarks a x → PlansAsPrinted s blankMarks b y → (x ≡ y) × (a ≡ b)
+  once = checked-once (printedRefusal s) (chainOf (jobOf s)) (S-rises (jobOf s)) (jobOf s .tasks) (λ z. some-task s (clear-sheet z)) blankMarks
 
-  pub text-once : (r q : Text) → SheetPrints s r → SheetPrints s q → printed r ≡ printed q
+  pub text-once : (r q : Text) → SheetPrints s r → SheetPrints s q → textOf r ≡ textOf q
   text-once r q f g = prints-once once f g
 
   -- a sheet that passes checks 1 to 8 with more than 8 tasks gets 27; any other has the text that `plan` prints
   pub text-as-plan : (r q : Text) → (sheetRefusal s ≡ 0 → jobOf s .tasks ≤ printedLimit) → SheetPrints s r → PlanPrints (Plans s) timeWord (tasks s) q
-      → printed r ≡ printed q
+      → textOf r ≡ textOf q
   text-as-plan r q short f g =
-      let same = printed-is-plan s fresh (f .marks) (g .marks) (f .answer) (g .answer) (f .promise) (g .promise) in
+      let same = printed-is-plan s blankMarks (f .marks) (g .marks) (f .answer) (g .answer) (f .promise) (g .promise) in
       let other : f .answer .number ≢ Numbers.longChain = λ e. let long = same .long .0 e in omega (arith, long .1, short (long .0)) in
       holds-once (rw (same .answer other, same .buffer other) refl) (f .text) (g .text)

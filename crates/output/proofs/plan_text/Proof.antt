@@ -28,7 +28,7 @@ put-numbered-requires c κs =
     let start = c .before .before .before .before .before in
     let n = start .args .n in
     let few : n ≤ taskLimit = start .pre .few (omega arith) in
-    let fits = plan-fits (start .args .word .now) (start .args .answer .time) (take n (start .args .t3)) (start .pre .short) (omega (arith, start .good)) (omega (arith, length-take-le n (start .args .t3) (omega (arith, few, start .good)))) in
+    let fits = plan-fits (start .args .word .now) (start .args .answer .time) (start .args .t3) n (start .pre .short) (omega (arith, start .good)) few in
     room-first _ (room-empty (c .before .room .ensures) fits)
 
 slice-aggregate-put-marked : tie.Need-slice-aggregate-put-marked
@@ -50,7 +50,7 @@ put-marked-requires c κs =
     let start = room .before .before .before .before in
     let n = start .args .n in
     let few : n ≤ taskLimit = start .pre .few (omega arith) in
-    let fits = plan-fits (start .args .word .now) (start .args .answer .time) (take n (start .args .t3)) (start .pre .short) (omega (arith, start .good)) (omega (arith, length-take-le n (start .args .t3) (omega (arith, few, start .good)))) in
+    let fits = plan-fits (start .args .word .now) (start .args .answer .time) (start .args .t3) n (start .pre .short) (omega (arith, start .good)) few in
     room-then (room-empty (room .room .ensures) fits) (figure .put-numbered .ensures)
 
 returns-2 : tie.Need-returns-2
@@ -61,7 +61,7 @@ returns-2 c =
     let start = room .before .before .before .before in
     let n = start .args .n in
     let few : n ≤ taskLimit = start .pre .few (omega arith) in
-    let fits = plan-fits (start .args .word .now) (start .args .answer .time) (take n (start .args .t3)) (start .pre .short) (omega (arith, start .good)) (omega (arith, length-take-le n (start .args .t3) (omega (arith, few, start .good)))) in
+    let fits = plan-fits (start .args .word .now) (start .args .answer .time) (start .args .t3) n (start .pre .short) (omega (arith, start .good)) few in
     rw (plan-accepted _ (start .args .answer) (take n (start .args .t3)) (omega arith))
     (room-holds (room-empty (room .room .ensures) fits) (puts-then (figure .put-numbered .ensures) (marks .put-marked .ensures)))
 
