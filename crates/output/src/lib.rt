@@ -18,8 +18,14 @@ use state::Place;
 use state::Sums;
 use units::TASK_LIMIT;
 
-// The longest word of a line, the most digits of a number, a space and the line's end.
-const LINE_ROOM: usize = 8 + 20 + 2;
+// The longest word of a line.
+const LONGEST_WORD: usize = 8;
+
+// The most digits of a number of 64 bits.
+const WORD_DIGITS: usize = 20;
+
+// A word, a number, the space between them and the line's end.
+const LINE_ROOM: usize = LONGEST_WORD + WORD_DIGITS + 2;
 
 // The lines of a run.
 const RUN_LINES: usize = 7;

@@ -10,7 +10,7 @@ use lib.ListN.{getD}
 use Rattle.units.specs.Limits.{costLimit}
 use Rattle.lists.specs.Lists.{some}
 use Rattle.lists.proofs.Lists.{some-holds, some-more}
-use Rattle.job.specs.Checks.{badCost}
+use Rattle.job.specs.Checks.{costsOf, badCost}
 use Rattle.job.proofs.checks.bad_cost.Statement.{statement}
 use Rattle.job.proofs.checks.bad_cost.Tie as tie
 
@@ -41,7 +41,8 @@ returns : tie.Need-returns Inv-loop μ-loop
 unfolding badCost
 returns c =
     let loop = c .before .before .loop in
-    sym (some-holds 5 _ (loop .k) (omega arith) (lt-ltb _ _ (c .if1 .taken)))
+    let cost = getD (costsOf (c .before .before .before .args .p)) (loop .k) 0 in
+    sym (some-holds 5 _ (loop .k) (omega arith) (lt-ltb costLimit cost (omega (arith, c .if1 .taken))))
 
 add-k : tie.Need-add-k Inv-loop μ-loop
 add-k c = omega arith
