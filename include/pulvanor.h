@@ -30,7 +30,9 @@ extern "C" {
 #define PULVANOR_POWER 16                     /* the highest power */
 #define PULVANOR_TIME ((1ULL << 34) - 1)      /* the longest time and the most energy that is given */
 
-/* 0 and a time in ticks, or a refusal and time 0. A plan by energy has its energy in place of the time. */
+/* 0 and a time in ticks, or a refusal and time 0. A plan by energy has its energy in place of the time. A time is
+   the expected one, the average over runs, and so is an energy: one run may take longer, and what margin to add
+   is the caller's choice. */
 struct pulvanor_answer {
     uint64_t number;
     uint64_t time;
@@ -125,15 +127,16 @@ struct pulvanor_answer pulvanor_price(const uint8_t *sheet, size_t sheet_length,
 /* The least time of all allowed settings of the sheet; the setting's marks, one byte a task, are the first n
    bytes of the buffer. Of settings that take as long it is the first in this order: list the positions with
    mark 3 from the last task down, then 0; at the first difference the setting with the earlier position comes
-   first. Where these lists agree, the same with marks 2 and 3, then with marks 1, 2 and 3. Refusals 1 to 8, 11 (the buffer is shorter than n) and 13 (every allowed setting is too
-   slow). A refusal writes no byte, and later bytes are never touched.
+   first. Where these lists agree, the same with marks 2 and 3, then with marks 1, 2 and 3. Refusals 1 to 8, 11
+   (the buffer is shorter than n) and 13 (every allowed setting is too slow). A refusal writes no byte, and later
+   bytes are never touched.
 
    Of two sheets that differ in costs alone (cd, cm, v, rd, rm), none of them less in the second, with any two
-   buffers that hold the marks: the second's time is not less; where the first gets 13 so does the second, if 1
-   to 7 do not refuse it; and where the second gets a time so does the first, if 1 to 6 do not refuse it. The
-   same holds of pulvanor_price under the same marks, of pulvanor_printed, and, of the energies and not of the
-   times of their marks, of pulvanor_energy by the same powers, where 29 does not refuse the second. It does not
-   hold of rates and weights. */
+   buffers that hold the marks, this is known of the averages: the second's time is not less; where the first
+   gets 13 so does the second, if 1 to 7 do not refuse it; and where the second gets a time so does the first,
+   if 1 to 6 do not refuse it. The same holds of pulvanor_price under the same marks, of pulvanor_printed, and,
+   of the energies and not of the times of their marks, of pulvanor_energy by the same powers, where 29 does not
+   refuse the second. It does not hold of rates and weights. */
 struct pulvanor_answer pulvanor_plan(const uint8_t *sheet, size_t sheet_length, uint8_t *buffer, size_t buffer_length);
 
 /* The same by energy: `computing` is the power at which computing and verifying are billed, `saving` that of
@@ -161,6 +164,8 @@ struct pulvanor_outcome pulvanor_start(const uint8_t *sheet, size_t sheet_length
 /* The records of a log, read and applied in turn from the state given; one record is one event. A record is a
    code (1 Done, 2 Passed, 3 Failed, 4 Stopped), then the lost ticks, 4 bytes, lowest first, 0 except for code
    4. Failed adds R_M to the recovery and Stopped R_D + R_M, but 0 where the run goes back to the start.
+   A node that stops during a verification or a copy is outside the model: Failed, then Stopped with 0 lost
+   ticks, keeps the place right and counts one V and one R_M (0 at the start) more.
    Refusals 12 and 21 to 25; the first of them hands back the state given. 21 is tested even for an empty
    log. */
 struct pulvanor_outcome pulvanor_follow(struct pulvanor_run run, const uint8_t *log, size_t log_length);
