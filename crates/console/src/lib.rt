@@ -73,7 +73,9 @@ pub fn answered_to(file: i32, most: usize, usage: &[u8]) -> bool {
         return true;
     }
     if most < os::arg_count() {
-        print_to(file, complaint(b"too many arguments", b""));
+        if !print_to(file, complaint(b"too many arguments", b"")) {
+            unwritten();
+        }
         return true;
     }
     false

@@ -108,7 +108,7 @@ module _ (s s' l : List ℕ) (dearer : CostsRaised (jobOf s) (jobOf s')) where
 pub price-raised : (cost : Cost) (s s' l : List ℕ) → OneRaised cost (jobOf s) (jobOf s') → NotSooner (cheaperRefusal s ≡ 0) (dearerRefusal s' ≡ 0) (priceOf s l) (priceOf s' l)
 price-raised cost s s' l one = price-not-sooner s s' l (raised-dearer cost (jobOf s) (jobOf s') one)
 
--- where the dearer sheet gets a result, so does the cheaper, and it is not more: hours booked from the dearer's time are enough
+-- where the dearer sheet gets a result, so does the cheaper, and it is not more: on average, what is booked from the dearer's time is enough
 pub booking-holds : {P P' : Type 0} {r r' : Answer} → NotSooner P P' r r' → P → r' .number ≡ Numbers.accepted
     → (r .number ≡ Numbers.accepted) × (r .time ≤ r' .time)
 booking-holds law free e = let result = law .result e free in (result, law .time result e)

@@ -229,7 +229,7 @@ A-by-values = facts .values-A
 pub one-compared : (k : Cost) → OneRaised k (jobOf sheetA) (jobOf (raisedA k)) × BothPlanned sheetA (raisedA k) 2 2 (accepted 726347) (accepted (raisedTime k))
 one-compared k = (facts .one-raised k, both-times (S-rises (jobOf sheetA)) (S-rises (jobOf (raisedA k))) (facts .A) (facts .one k) (lit< tt) (facts .one-below k))
 
--- so the theorem speaks of them: hours booked from the dearer plan, with whatever buffer, are enough for A's with another
+-- so the theorem speaks of them: the time of the dearer plan, with whatever buffer, is not under A's with another
 pub one-booking : (k : Cost) (before after before' after' : List ℕ) (r r' : Answer) → 2 ≤ length before → 2 ≤ length before'
     → Plans sheetA before after r → Plans (raisedA k) before' after' r' → r .time ≤ r' .time
 one-booking k before after before' after' r r' room room' plans plans' =
