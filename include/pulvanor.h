@@ -11,8 +11,8 @@
    call at once.
 
    `number` in an answer is 0 if the call is accepted, and else the one refusal whose condition is the first to
-   hold; README.md lists them. Where refusals 1 to 6, 1 to 8 or 1 to 10 of a sheet are named below, 28 is among
-   them, after 5 and before 6: a byte from 20 on is in no section. */
+   hold; README.md lists them. Where refusals 1 to 6, 1 to 7, 1 to 8 or 1 to 10 of a sheet are named below, 28 is
+   among them, after 5 and before 6: a byte from 20 on is in no section. */
 #ifndef PULVANOR_H
 #define PULVANOR_H
 
@@ -132,7 +132,7 @@ struct pulvanor_answer pulvanor_price(const uint8_t *sheet, size_t sheet_length,
    bytes are never touched.
 
    Of two sheets that differ in costs alone (cd, cm, v, rd, rm), none of them less in the second, with any two
-   buffers that hold the marks, this is known of the averages: the second's time is not less; where the first
+   buffers that hold the marks, this is known of the averages: of two times the second is not less; where the first
    gets 13 so does the second, if 1 to 7 do not refuse it; and where the second gets a time so does the first,
    if 1 to 6 do not refuse it. The same holds of pulvanor_price under the same marks, of pulvanor_printed, and,
    of the energies and not of the times of their marks, of pulvanor_energy by the same powers, where 29 does not

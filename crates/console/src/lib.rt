@@ -1,4 +1,4 @@
-// What the programs read and write: a text by one write, the sheet on standard input, and marks or a number in an argument.
+// What the programs read and write: a text by one call, the sheet on standard input, and marks or a number in an argument.
 ghost use Prim.Native.Nat.{_≤_};
 ghost use lib.ListN.{length};
 ghost use Rattle.io.specs.Counts.{Counts};
@@ -23,7 +23,7 @@ pub const ARGUMENT_ROOM: usize = 131_072;
 // More than the word `--help` has.
 const HELP_ROOM: usize = 16;
 
-// A text, to a file by one write; whether all of it was written.
+// A text, to a file by one call; whether all of it was written.
 pub fn print_to(file: i32, text: Text) -> bool
     requires { ⌜ text .length ≤ length (text .bytes) ⌝ }
 {
@@ -63,9 +63,9 @@ fn is_help() -> bool {
     check::same(&word[..n], b"--help")
 }
 
-// What the words of a call are answered by themselves: how the program is used, for a first word of `--help`, or, to a file, that they are too many. Whether
-// they were.
-pub fn answered_to(file: i32, most: usize, usage: &[u8]) -> bool {
+// Calls that are answered by their words alone, and whether this is one: a first word of `--help` prints how the program is used; more words than `most`, the
+// program's own name among them, have a line in a file.
+pub fn words_answered_to(file: i32, most: usize, usage: &[u8]) -> bool {
     if is_help() {
         if !io::write_all(STDOUT_FILENO, usage) {
             unwritten();
@@ -81,9 +81,9 @@ pub fn answered_to(file: i32, most: usize, usage: &[u8]) -> bool {
     false
 }
 
-// The same, to standard output.
-pub fn answered(most: usize, usage: &[u8]) -> bool {
-    answered_to(STDOUT_FILENO, most, usage)
+// The same, the line on standard output.
+pub fn words_answered(most: usize, usage: &[u8]) -> bool {
+    words_answered_to(STDOUT_FILENO, most, usage)
 }
 
 // The line of a file that could not be read, by the system's number of the error.

@@ -27,10 +27,10 @@ module _ (powers : Powers) (s : List ℕ) where
   text-once r q f g = prints-once (energy-once powers s blankMarks) f g
 
   -- the printed energy is the least, and that of the printed marks, those that a user reads as one digit each
-  pub printed-energy-is-least : (r : Text) (energy : ℕ) (marks : List ℕ) → SheetPrints powers s r → ((j : ℕ) → j < length marks → getD marks j 0 < base)
+  pub text-energy-is-least : (r : Text) (energy : ℕ) (marks : List ℕ) → SheetPrints powers s r → ((j : ℕ) → j < length marks → getD marks j 0 < base)
       → textOf r ≡ planText energyWord (accepted energy) marks → LeastEnergy powers s marks energy
   unfolding jobOf
-  printed-energy-is-least r energy marks f short e =
+  text-energy-is-least r energy marks f short e =
       let told = plan-told _ _ (f .answer) (accepted energy) (take (tasks s) (f .marks)) marks (omega arith) (sym (f .text .bytes) ∙ e) in
       let least = energy-least powers s blankMarks (f .marks) (f .answer) (f .promise) (told .number) in
       let same = marks-told (take (tasks s) (f .marks)) marks (own (told .number)) short (told .marks (told .number)) in

@@ -30,9 +30,9 @@ fn plan(powers: Powers) {
 }
 
 fn main() {
-    if console::answered(
+    if console::words_answered(
         3,
-        b"energy COMPUTING SAVING < SHEET\nReads two powers, 1 to 16, and a job sheet from standard input. Prints the least expected energy in ticks times units of power, then one digit a task, or one line, refused N.\nExample: energy 3 5 < crates/energy/stdin\n",
+        b"energy COMPUTING SAVING < SHEET\nPrints the least expected energy by these powers, 1 to 16, then one digit a task, or refused N.\nExample: energy 3 5 < crates/energy/stdin\n",
     ) {
         return;
     }

@@ -5,7 +5,7 @@ use mathlib.Core.List.{List, []}
 use borrow.Author.Tests.{lt-ltb, le-ltb}
 use Rattle.refusals.specs.Numbers
 use Rattle.refusals.specs.Refusals.{has, distinct, Numbered}
-use Rattle.refusals.proofs.Refusals.{first-stands, first-goes-on, refused-here, refused-later, refused-none}
+use Rattle.refusals.proofs.Refusals.{first-stands, first-none, first-goes-on, refused-here, refused-later, refused-none}
 use Rattle.sheet.specs.Reading.{jobOf, sheetConditions, sheetRefusal}
 use Rattle.sheet.proofs.Readings.{sheet-numbered}
 use Rattle.engine.specs.Promise.{printedLimit, tooLong, printedConditions, printedRefusal}
@@ -15,6 +15,11 @@ module _ (s : List ℕ) where
   pub printed-numbered : Numbered (printedConditions s)
   unfolding has distinct
   printed-numbered = refl
+
+  -- where none of its checks holds, none of 1 to 8 does
+  pub printed-passed : printedRefusal s ≡ 0 → sheetRefusal s ≡ 0
+  unfolding sheetRefusal printedRefusal
+  printed-passed e = first-none (sheetConditions s) _ e
 
   pub printed-sheet : 0 < sheetRefusal s → printedRefusal s ≡ sheetRefusal s
   unfolding sheetRefusal printedRefusal

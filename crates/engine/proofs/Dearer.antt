@@ -8,8 +8,8 @@ use native.Mathlib.Omega.{arith}
 use Rattle.refusals.specs.Numbers
 use Rattle.refusals.specs.Refusals.{has}
 use Rattle.refusals.specs.declared.Answer.{Answer}
-use Rattle.refusals.proofs.Refusals.{first-other, first-none}
-use Rattle.sheet.specs.Reading.{jobOf, sheetConditions, sheetRefusal}
+use Rattle.refusals.proofs.Refusals.{first-other}
+use Rattle.sheet.specs.Reading.{jobOf}
 use Rattle.costs.specs.Stretch.{chainOf}
 use Rattle.costs.specs.Dearer.{Cost, OneRaised, CostsRaised}
 use Rattle.costs.proofs.Stretches.{S-rises}
@@ -20,20 +20,15 @@ use Rattle.answers.specs.Promise.{Free}
 use Rattle.planning.proofs.Theorems.{some-task}
 use Rattle.planning.proofs.Dearer.{Compared, checked-not-sooner}
 use Rattle.engine.specs.Promise.{printedLimit, printedConditions, printedRefusal, PlansAsPrinted}
-use Rattle.engine.proofs.Answers.{printed-long, printed-clear}
+use Rattle.engine.proofs.Answers.{printed-passed, printed-long, printed-clear}
 
--- where none of its checks holds, none of 1 to 8 does
-passed-sheet : (s : List ℕ) → printedRefusal s ≡ 0 → sheetRefusal s ≡ 0
-unfolding sheetRefusal printedRefusal
-passed-sheet s e = first-none (sheetConditions s) _ e
-
--- nor 27
+-- where none of its checks holds, 27 does not
 passed-length : (s : List ℕ) → printedRefusal s ≡ 0 → jobOf s .tasks ≤ printedLimit
 passed-length s e = go (decLe (jobOf s .tasks) printedLimit)
   where
     go : Dec (jobOf s .tasks ≤ printedLimit) → jobOf s .tasks ≤ printedLimit
     go (yes h) = h
-    go (no h) = absurd (omega (arith, printed-long s (passed-sheet s e) (omega arith)))
+    go (no h) = absurd (omega (arith, printed-long s (printed-passed s e) (omega arith)))
 
 -- two sheets, the second dearer in any of the five costs
 module _ (s s' : List ℕ) (dearer : CostsRaised (jobOf s) (jobOf s')) where
@@ -47,11 +42,11 @@ module _ (s s' : List ℕ) (dearer : CostsRaised (jobOf s) (jobOf s')) where
         rises = S-rises (jobOf s);
         rises' = S-rises (jobOf s');
         less = chain-dearer (jobOf s) (jobOf s') dearer n;
-        some = λ z. some-task s (passed-sheet s z);
-        some' = λ z. omega (arith, some-task s' (passed-sheet s' z), dearer .others .tasks);
+        some = λ z. some-task s (printed-passed s z);
+        some' = λ z. omega (arith, some-task s' (printed-passed s' z), dearer .others .tasks);
         other = first-other Numbers.tooSlow (printedConditions s) (omega arith) refl;
-        clear = λ z e. printed-clear s (cheaper-clear s s' dearer z (passed-sheet s' e)) (omega (arith, passed-length s' e, dearer .others .tasks));
-        clear' = λ z e. printed-clear s' (dearer-clear s s' dearer z (passed-sheet s e)) (omega (arith, passed-length s e, dearer .others .tasks));
+        clear = λ z e. printed-clear s (cheaper-clear s s' dearer z (printed-passed s' e)) (omega (arith, passed-length s' e, dearer .others .tasks));
+        clear' = λ z e. printed-clear s' (dearer-clear s s' dearer z (printed-passed s e)) (omega (arith, passed-length s e, dearer .others .tasks));
       }
 
   pub printed-not-sooner : (before after before' after' : List ℕ) (r r' : Answer) → PlansAsPrinted s before after r → PlansAsPrinted s' before' after' r'

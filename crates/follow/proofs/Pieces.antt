@@ -18,7 +18,7 @@ use Rattle.logs.specs.Log.{logOf, orBefore}
 use Rattle.history.proofs.LogsInTurn.{two-logs}
 use Rattle.output.specs.Texts.{refusedText, runText, Holds}
 use Rattle.output.specs.declared.Text.{Text}
-use Rattle.follow.specs.Prints.{followedText, LogText, LogPrints, FollowPrints}
+use Rattle.follow.specs.Prints.{followedText, LogText, LogPrints, FollowPrints, CallPrints}
 
 pub followed-refused : (s : Stepped) → (s .number ≡ Numbers.accepted → ⊥) → followedText s ≡ refusedText (s .number)
 unfolding followedText
@@ -63,12 +63,16 @@ reached-text piece reached held = record { log = reached .pieces ++ piece; text 
 -- whatever is printed, it is in its room
 log-within : (run : Run) (path : List ℕ) (r : Text) → LogPrints run path r → r .length ≤ length (r .bytes)
 log-within run path r (inl t) = t .text .within
-log-within run path r (inr (inl t)) = t .text .within
+log-within run path r (inr (inl t)) = t .text-is .within
 log-within run path r (inr (inr t)) = t .within
 
-pub follow-within : (s marks path : List ℕ) (r : Text) → FollowPrints s marks path r → r .length ≤ length (r .bytes)
+follow-within : (s marks path : List ℕ) (r : Text) → FollowPrints s marks path r → r .length ≤ length (r .bytes)
 follow-within s marks path r prints = go (eq-zero-or-pos (startOf s marks .number))
   where
     go : (startOf s marks .number ≡ 0) ⊎ (0 < startOf s marks .number) → r .length ≤ length (r .bytes)
     go (inl e) = log-within (startOf s marks .run) path r (prints .followed e)
     go (inr h) = prints .refused h .within
+
+pub call-within : (s marks path : List ℕ) (r : Text) → CallPrints s marks path r → r .length ≤ length (r .bytes)
+call-within s marks path r (inl t) = t .text-is .within
+call-within s marks path r (inr t) = follow-within s marks path r t

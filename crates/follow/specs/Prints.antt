@@ -10,7 +10,7 @@ use Rattle.state.specs.declared.Run.{Run}
 use Rattle.following.specs.declared.Stepped.{Stepped}
 use Rattle.starting.specs.Start.{startOf}
 use Rattle.logs.specs.Log.{logOf}
-use Rattle.output.specs.Words.{tooLong, logWord}
+use Rattle.output.specs.Words.{endlessWords, logWord}
 use Rattle.output.specs.Files.{FileTold}
 use Rattle.output.specs.Texts.{refusedText, complaintText, runText, Holds}
 use Rattle.output.specs.declared.Text.{Text}
@@ -21,15 +21,19 @@ followedText s = cond (eqb (s .number) Numbers.accepted) (runText (s .run .place
 
 -- the text of a log, read piece by piece and followed as one
 pub record LogText (run : Run) (r : Text) : Type 0 where
-  -- the pieces that were read, one after the other
+  -- some log: which bytes were read, and whether they were all, no contract says
   pub log : List ℕ
   pub text : Holds (followedText (logOf run log)) r
 
 -- what is printed of a log: its text, or that it could not be read, or that it has no end
 abbrev pub LogPrints : Run → (path : List ℕ) → Text → Type 0
-LogPrints run path r = LogText run r ⊎ (FileTold logWord path r ⊎ Holds (complaintText tooLong logWord) r)
+LogPrints run path r = LogText run r ⊎ (FileTold logWord path r ⊎ Holds (complaintText endlessWords logWord) r)
 
--- what is printed for a sheet, marks and the log of this name: the refusal of the start, or what is printed of the log from the fresh run on
+-- what is printed for a sheet, marks and the log of this name, once it is open: the refusal of the start, or what is printed of the log from the fresh run on
 pub record FollowPrints (s marks path : List ℕ) (r : Text) : Type 0 where
   pub refused : 0 < startOf s marks .number → Holds (refusedText (startOf s marks .number)) r
   pub followed : startOf s marks .number ≡ 0 → LogPrints (startOf s marks .run) path r
+
+-- and for a call: that the log cannot be opened, or this
+abbrev pub CallPrints : (s marks path : List ℕ) → Text → Type 0
+CallPrints s marks path r = FileTold logWord path r ⊎ FollowPrints s marks path r

@@ -1,9 +1,9 @@
 // Follows a run: the marks as digits in the first argument, the name of a log file in the second, the job sheet on standard input.
 // Prints where the run stands and what it has counted, or the number of its refusal.
-ghost use Rattle.output.specs.Words.{tooLong, logWord};
+ghost use Rattle.output.specs.Words.{endlessWords, logWord};
 ghost use Rattle.output.specs.Files.{FileTold};
 ghost use Rattle.output.specs.Texts.{complaintText, Holds};
-ghost use Rattle.follow.specs.Prints.{followedText, LogPrints, FollowPrints};
+ghost use Rattle.follow.specs.Prints.{followedText, LogPrints, FollowPrints, CallPrints};
 use console::ARGUMENT_ROOM;
 use following::Stepped;
 use header::SHEET_ROOM;
@@ -40,7 +40,7 @@ fn unreadable(path: &[u8]) -> Text
 
 // The log has no end.
 fn endless() -> Text
-    ensures { λ r. ⌜ Holds (complaintText tooLong logWord) r ⌝ }
+    ensures { λ r. ⌜ Holds (complaintText endlessWords logWord) r ⌝ }
 {
     complaint(b"too long: ", b"log")
 }
@@ -83,15 +83,17 @@ fn follow(sheet: &[u8], marks: &[u8], path: &[u8], file: i32) -> Text
     follow_log(started.run, path, file)
 }
 
-// The log is opened after the sheet is read.
-fn open_and_follow(sheet: &[u8], marks: &[u8], path: &[u8]) {
+// What is printed. The log is opened after the sheet is read, and before it is looked at.
+fn open_and_follow(sheet: &[u8], marks: &[u8], path: &[u8]) -> Text
+    ensures { λ r. ⌜ CallPrints (now (sheet .entry)) (now (marks .entry)) (now (path .entry)) r ⌝ }
+{
     let file = os::open_read(path);
     if file < 0 {
-        console::print(unreadable(path));
-        return;
+        return unreadable(path);
     }
-    console::print(follow(sheet, marks, path, file));
+    let text = follow(sheet, marks, path, file);
     libc::close(file);
+    text
 }
 
 // The run under the sheet on standard input.
@@ -102,7 +104,7 @@ fn read_and_follow(marks: &[u8], path: &[u8]) {
         return;
     }
     let n = taken.n;
-    open_and_follow(&sheet[..n], marks, path);
+    console::print(open_and_follow(&sheet[..n], marks, path));
 }
 
 // The log that the second argument names.
@@ -117,9 +119,9 @@ fn take_path(marks: &[u8]) {
 }
 
 fn main() {
-    if console::answered(
+    if console::words_answered(
         3,
-        b"follow MARKS LOG < SHEET\nReads marks, one digit a task, the name of a log, and a job sheet from standard input. Prints where the run stands after the events of the log and what it has counted, in ticks, or one line, refused N.\nExample: follow 23 crates/follow/data/log < crates/plan/stdin\n",
+        b"follow MARKS LOG < SHEET\nPrints where a run stands after the events of the log, or refused N.\nExample: follow 23 crates/follow/data/log < crates/plan/stdin\n",
     ) {
         return;
     }

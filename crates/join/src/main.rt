@@ -79,10 +79,10 @@ fn join_second(first: &[u8]) {
 }
 
 fn main() {
-    if console::answered_to(
+    if console::words_answered_to(
         STDERR_FILENO,
         3,
-        b"join FIRST SECOND > SHEET\nReads two job sheets of one platform that run as one booking. Writes one sheet, the first's weights and then the second's, to standard output; refused N and any other line goes to standard error.\nExample: join crates/join/data/screen crates/join/data/classify | plan\n",
+        b"join FIRST SECOND > SHEET\nWrites one sheet from two of one platform; any other line goes to standard error.\nExample: join crates/join/data/screen crates/join/data/classify | plan\n",
     ) {
         return;
     }

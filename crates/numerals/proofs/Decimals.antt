@@ -154,8 +154,8 @@ decimal-reads n =
     }
 
 -- so that `to_number` gives back each number of 64 bits
-pub printed-number-read : (n : ℕ) (r : Number) → n ≤ wordMost → NumberOf (decimal n) r → (r .failed ≡ false) × (r .value ≡ n)
-printed-number-read n r h given =
+pub decimal-read : (n : ℕ) (r : Number) → n ≤ wordMost → NumberOf (decimal n) r → (r .failed ≡ false) × (r .value ≡ n)
+decimal-read n r h given =
     let reads = decimal-reads n in
     (given .fails ∙ rw (reads .number) refl, given .value (reads .number) ∙ rw (reads .value) (within-word n h))
 

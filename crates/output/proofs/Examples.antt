@@ -9,11 +9,11 @@ use Rattle.output.specs.Words.{timeWord}
 use Rattle.output.specs.Texts.{refusedText, planText}
 
 -- time 726347, marks 23
-sheet-a : planText timeWord (accepted 726347) (2 ∷ 3 ∷ [])
+time-and-marks : planText timeWord (accepted 726347) (2 ∷ 3 ∷ [])
     ≡ t ∷ i ∷ m ∷ e ∷ space ∷ digit 7 ∷ digit 2 ∷ digit 6 ∷ digit 3 ∷ digit 4 ∷ digit 7 ∷ newline
     ∷ m ∷ a ∷ r ∷ k ∷ s ∷ space ∷ digit 2 ∷ digit 3 ∷ newline ∷ []
 unfolding planText numberLine marksLine markDigits decimal decimalBy
-sheet-a = refl
+time-and-marks = refl
 
 -- refused 6
 refused-6 : refusedText 6 ≡ r ∷ e ∷ f ∷ u ∷ s ∷ e ∷ d ∷ space ∷ digit 6 ∷ newline ∷ []

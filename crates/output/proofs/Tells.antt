@@ -16,7 +16,7 @@ use Rattle.numerals.proofs.Decimals.{decimal-once, decimal-least}
 use Rattle.lines.specs.Lines.{space, newline, numberLine, markDigits, marksLine}
 use Rattle.output.specs.Letters as letter
 use Rattle.output.specs.Words.{marksWord, refusedWord}
-use Rattle.output.specs.Texts.{refusedText, planText}
+use Rattle.output.specs.Texts.{refusedText, planText, SameAnswer}
 use Rattle.output.proofs.Lengths.{plan-refused, plan-accepted}
 
 -- no byte of the list ends a line
@@ -97,12 +97,6 @@ refused-told a b e = number-told refusedWord a b [] [] (ap (λ (l : List ℕ). l
 refusal-other : (f : ℕ) (w : List ℕ) (n k : ℕ) (x : List ℕ) → f ≢ letter.r → numberLine (f ∷ w) n ++ x ≢ refusedText k
 unfolding refusedText numberLine
 refusal-other f w n k x other e = other (cc)
-
--- what two answers with marks have in common where their texts are the same
-pub record SameAnswer (r q : Answer) (m k : List ℕ) : Type 0 where
-  pub number : r .number ≡ q .number
-  pub figure : r .number ≡ Numbers.accepted → r .time ≡ q .time
-  pub marks : r .number ≡ Numbers.accepted → markDigits m ≡ markDigits k
 
 -- 'the text tells the answer', where the word for the figure does not begin as a refusal does
 pub plan-told : (f : ℕ) (w : List ℕ) (r q : Answer) (m k : List ℕ) → f ≢ letter.r → planText (f ∷ w) r m ≡ planText (f ∷ w) q k → SameAnswer r q m k

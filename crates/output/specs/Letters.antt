@@ -4,6 +4,9 @@ use Prim.Native.Nat.{ℕ}
 abbrev pub a : ℕ
 a = 97
 
+abbrev pub b : ℕ
+b = 98
+
 abbrev pub c : ℕ
 c = 99
 

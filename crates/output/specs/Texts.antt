@@ -11,7 +11,7 @@ use Rattle.refusals.specs.declared.Answer.{Answer}
 use Rattle.state.specs.declared.Sums.{Sums}
 use Rattle.state.specs.declared.Place.{Place}
 use Rattle.numerals.specs.Decimal.{wordDigits}
-use Rattle.lines.specs.Lines.{space, wordsLine, numberLine, marksLine}
+use Rattle.lines.specs.Lines.{space, wordsLine, numberLine, markDigits, marksLine}
 use Rattle.output.specs.Words.{
   timeWord,
   marksWord,
@@ -101,3 +101,9 @@ pub record PlanPrints (Promise : (before after : List ℕ) → Answer → Type 0
   pub marks : List ℕ
   pub promise : Promise blankMarks marks answer
   pub text : Holds (planText word answer (take n marks)) r
+
+-- what two answers with marks have in common where their texts are the same
+pub record SameAnswer (r q : Answer) (m k : List ℕ) : Type 0 where
+  pub number : r .number ≡ q .number
+  pub figure : r .number ≡ Numbers.accepted → r .time ≡ q .time
+  pub marks : r .number ≡ Numbers.accepted → markDigits m ≡ markDigits k

@@ -43,12 +43,12 @@ savesWord = s ∷ a ∷ v ∷ e ∷ s ∷ []
 abbrev pub recoveryWord : List ℕ
 recoveryWord = r ∷ e ∷ c ∷ o ∷ v ∷ e ∷ r ∷ y ∷ []
 
--- of a log that cannot be read, or has no end
+-- of a file that cannot be read, and of a log that has no end
 abbrev pub cannotRead : List ℕ
 cannotRead = c ∷ a ∷ n ∷ n ∷ o ∷ t ∷ space ∷ r ∷ e ∷ a ∷ d ∷ colon ∷ space ∷ []
 
-abbrev pub tooLong : List ℕ
-tooLong = t ∷ o ∷ o ∷ space ∷ l ∷ o ∷ n ∷ g ∷ colon ∷ space ∷ []
+abbrev pub endlessWords : List ℕ
+endlessWords = t ∷ o ∷ o ∷ space ∷ l ∷ o ∷ n ∷ g ∷ colon ∷ space ∷ []
 
 abbrev pub logWord : List ℕ
 logWord = l ∷ o ∷ g ∷ []

@@ -28,10 +28,10 @@ module _ (s : List ℕ) where
   text-once r q f g = prints-once (plan-once s blankMarks) f g
 
   -- demand 2 of the printed time: it is the price of the printed marks, those that a user reads as one digit each
-  pub printed-time-is-price : (r : Text) (time : ℕ) (marks : List ℕ) → SheetPrints s r → ((j : ℕ) → j < length marks → getD marks j 0 < base)
+  pub text-time-is-price : (r : Text) (time : ℕ) (marks : List ℕ) → SheetPrints s r → ((j : ℕ) → j < length marks → getD marks j 0 < base)
       → textOf r ≡ planText timeWord (accepted time) marks → priceOf s marks ≡ accepted time
   unfolding jobOf
-  printed-time-is-price r time marks f short e =
+  text-time-is-price r time marks f short e =
       let told = plan-told _ _ (f .answer) (accepted time) (take (tasks s) (f .marks)) marks (omega arith) (sym (f .text .bytes) ∙ e) in
       let priced = plan-prices s blankMarks (f .marks) (f .answer) (f .promise) (told .number) in
       let same = marks-told (take (tasks s) (f .marks)) marks (own (told .number)) short (told .marks (told .number)) in

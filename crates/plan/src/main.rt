@@ -16,9 +16,9 @@ fn text_of(sheet: &[u8]) -> Text
 }
 
 fn main() {
-    if console::answered(
+    if console::words_answered(
         1,
-        b"plan < SHEET\nReads a job sheet from standard input. Prints the least expected time in ticks, then one digit a task:\n0 nothing, 1 a verification, 2 a copy in memory too, 3 a copy on disk too. Or one line, refused N.\nExample: plan < crates/plan/stdin\n",
+        b"plan < SHEET\nPrints the least expected time in ticks, then one digit a task (README has them), or refused N.\nExample: plan < crates/plan/stdin\n",
     ) {
         return;
     }

@@ -25,9 +25,9 @@ fn price(marks: &[u8]) {
 }
 
 fn main() {
-    if console::answered(
+    if console::words_answered(
         2,
-        b"price MARKS < SHEET\nReads marks, one digit a task, and a job sheet from standard input. Prints the expected time in ticks under these marks, or one line, refused N.\nExample: price 23 < crates/plan/stdin\n",
+        b"price MARKS < SHEET\nPrints the expected time in ticks under these marks, one digit a task, or refused N.\nExample: price 23 < crates/plan/stdin\n",
     ) {
         return;
     }

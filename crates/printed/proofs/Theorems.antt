@@ -1,10 +1,9 @@
 -- What the program prints for a sheet is determined, byte by byte, and is what `plan` prints, but for a chain that is too long: answer and marks are the
 -- planner's (`printed-is-plan`), and the text is theirs. Assumes nothing.
-use Prim.Native.Nat.{ℕ, _≤_, _<_}
+use Prim.Native.Nat.{ℕ, _≤_}
 use mathlib.Core.Path.{_≡_, refl}
 use mathlib.Core.List.{List}
-use mathlib.Core.Logic.{_⊎_, inl, inr, _≢_}
-use native.Mathlib.Nat.{eq-zero-or-pos}
+use mathlib.Core.Logic.{_≢_}
 use native.Mathlib.Omega.{arith}
 use Rattle.refusals.specs.Numbers
 use Rattle.refusals.specs.declared.Answer.{Answer}
@@ -16,7 +15,7 @@ use Rattle.answers.proofs.Answers.{checked-once}
 use Rattle.planning.specs.Promise.{Plans}
 use Rattle.planning.proofs.Theorems.{some-task}
 use Rattle.engine.specs.Promise.{printedLimit, printedRefusal, PlansAsPrinted}
-use Rattle.engine.proofs.Answers.{printed-sheet}
+use Rattle.engine.proofs.Answers.{printed-passed}
 use Rattle.engine.proofs.Theorems.{printed-is-plan}
 use Rattle.output.specs.Words.{timeWord}
 use Rattle.output.specs.Texts.{blankMarks, textOf, PlanPrints}
@@ -25,16 +24,8 @@ use Rattle.output.proofs.Prints.{holds-once, prints-once}
 use Rattle.printed.specs.Prints.{SheetPrints}
 
 module _ (s : List ℕ) where
-  -- where no check of the equations holds, none of 1 to 8 does
-  clear-sheet : printedRefusal s ≡ 0 → sheetRefusal s ≡ 0
-  clear-sheet z = go (eq-zero-or-pos (sheetRefusal s))
-    where
-      go : (sheetRefusal s ≡ 0) ⊎ (0 < sheetRefusal s) → sheetRefusal s ≡ 0
-      go (inl e) = e
-      go (inr h) = absurd (omega (arith, printed-sheet s h))
-
   once : (a b : List ℕ) (x y : Answer) → PlansAsPrinted s blankMarks a x → PlansAsPrinted s blankMarks b y → (x ≡ y) × (a ≡ b)
-  once = checked-once (printedRefusal s) (chainOf (jobOf s)) (S-rises (jobOf s)) (jobOf s .tasks) (λ z. some-task s (clear-sheet z)) blankMarks
+  once = checked-once (printedRefusal s) (chainOf (jobOf s)) (S-rises (jobOf s)) (jobOf s .tasks) (λ z. some-task s (printed-passed s z)) blankMarks
 
   pub text-once : (r q : Text) → SheetPrints s r → SheetPrints s q → textOf r ≡ textOf q
   text-once r q f g = prints-once once f g

@@ -17,9 +17,9 @@ fn text_of(sheet: &[u8]) -> Text
 }
 
 fn main() {
-    if console::answered(
+    if console::words_answered(
         1,
-        b"printed < SHEET\nReads a job sheet of up to 8 tasks from standard input. Prints what plan prints, worked out by the equations of the paper as printed.\nExample: printed < crates/plan/stdin\n",
+        b"printed < SHEET\nPrints what plan prints, for up to 8 tasks, by the equations as printed in the paper.\nExample: printed < crates/plan/stdin\n",
     ) {
         return;
     }

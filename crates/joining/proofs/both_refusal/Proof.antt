@@ -49,7 +49,9 @@ returns-4 c =
     let sum = total-taken (ready .before .before .weight-to .ensures .value) (ready .before .weight-to2 .ensures .value) in
     let pre = ready .before .before .before .before .before .before .before .before .pre in
     let size = length-taken _ _ pre (ready .sheet-length .ensures) in
-    both-short _ _ _ (is-same .ensures) (c .before .before .before .if1 .left) (c .before .before .if2 .left) sum (c .before .if3 .left) size (c .if4 .taken)
+    let first-range = ready .before .before .weight-to .ensures .range in
+    let second-range = ready .before .weight-to2 .ensures .range in
+    both-short _ _ _ (is-same .ensures) (c .before .before .before .if1 .left) (c .before .before .if2 .left) sum (omega arith) size (c .if4 .taken)
 
 returns-5 : tie.Need-returns-5
 returns-5 c =
@@ -58,7 +60,9 @@ returns-5 c =
     let sum = total-taken (ready .before .before .weight-to .ensures .value) (ready .before .weight-to2 .ensures .value) in
     let pre = ready .before .before .before .before .before .before .before .before .pre in
     let size = length-taken _ _ pre (ready .sheet-length .ensures) in
-    both-joined _ _ _ (is-same .ensures) (c .before .before .before .if1 .left) (c .before .before .if2 .left) sum (c .before .if3 .left) size (c .if4 .left)
+    let first-range = ready .before .before .weight-to .ensures .range in
+    let second-range = ready .before .weight-to2 .ensures .range in
+    both-joined _ _ _ (is-same .ensures) (c .before .before .before .if1 .left) (c .before .before .if2 .left) sum (omega arith) size (c .if4 .left)
 
 pub both-refusal-spec : {M : Type 1} → statement M
 both-refusal-spec =

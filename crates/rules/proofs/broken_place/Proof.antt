@@ -1,4 +1,5 @@
 -- `rules::broken_place` meets its contract. The four tests in their order: each return rewrites the definition by the tests before it. Assumes nothing.
+use Prim.Native.Nat.{_≤_}
 use borrow.Author.Tests.{lt-ltb, le-ltb, eq-eqb, ne-eqb}
 use native.Mathlib.Omega.{arith}
 use Rattle.rules.specs.Rules.{brokenPlace}
@@ -51,7 +52,8 @@ returns-4 c =
     let weight-to = c .before .before .before .weight-to in
     let if3 = c .before .if3 in
     let over-total = c .over-total in
-    rw (le-ltb (run .job .tasks) (run .place .position) (omega (arith, tested .if1 .left)), ← (bad-awaiting .ensures), if2 .left, ← (weight-to .ensures .value), eq-eqb _ _ (if3 .left)) (over-total .ensures)
+    let within : run .place .position ≤ run .job .tasks = omega (arith, tested .if1 .left) in
+    rw (le-ltb (run .job .tasks) (run .place .position) within, ← (bad-awaiting .ensures), if2 .left, ← (weight-to .ensures .value), eq-eqb _ _ (if3 .left)) (over-total .ensures)
 
 pub broken-place-spec : {M : Type 1} → statement M
 broken-place-spec =
