@@ -16,7 +16,7 @@ unfoldable pub decimalBy : ℕ → ℕ → List ℕ
 decimalBy zero n = []
 decimalBy (suc k) n = let more = decimalBy k (n / base) ++ (digit (n % base) ∷ []) in cond (ltb n base) (digit n ∷ []) more
 
--- the digits of n, the first digit first; 0 has one. Fewer divisions than n and one more are enough
+-- the digits of n, the first digit first; 0 has one. n + 1 steps are enough (`decimal-digit`, `decimal-more`)
 unfoldable pub decimal : ℕ → List ℕ
 decimal n = decimalBy (suc n) n
 
