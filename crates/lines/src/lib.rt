@@ -1,4 +1,5 @@
-// Lines of text, put into a lent buffer from byte `at` on; each function answers where its text ends. Nothing here reads or prints.
+// Lines of text, put into a lent buffer from byte `at` on; each function answers where its text ends. Nothing here reads or prints. Each asks for room: only
+// `output` calls these, and has it.
 ghost use Rattle.numerals.specs.Decimal.{decimal};
 ghost use mathlib.Core.List.{[], _∷_};
 ghost use Rattle.lines.specs.Lines.{wordsLine, numberLine, markDigits, marksLine, Room, Puts};

@@ -1,4 +1,5 @@
-// The texts that the programs print, each made whole in its room, so that one call writes it. Nothing here reads or prints.
+// The texts that the programs print, each made whole in its room, so that one call writes it. Nothing here reads or prints. What is asked, of short words and of
+// a task count, the programs meet: their words are fixed.
 mod files;
 
 pub use files::unreadable;
