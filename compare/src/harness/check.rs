@@ -21,6 +21,9 @@ use crate::reference::sheet;
 use crate::sheet_writer::HEADER_SIZE;
 use crate::types::{Answer, Event, Job, Outcome, Run, MAX_TASKS};
 
+/// One run in so many has a long log.
+const LONG_LOGS: u64 = 100;
+
 /// One sheet at hand, with what is drawn and counted.
 struct Check<'a> {
     random: &'a mut Random,
@@ -234,6 +237,9 @@ impl Check<'_> {
         let marks = marks::allowed(self.random, job);
         if let Some(fresh) = self.start(&marks) {
             self.follow_run(&fresh);
+            if self.random.below(LONG_LOGS) == 0 && runs::may_be_long(job) {
+                self.long_log(&fresh);
+            }
         }
     }
 
@@ -295,6 +301,23 @@ impl Check<'_> {
         }
     }
 
+    /// A log of 10,000 records, from the start or from the middle of a run.
+    fn long_log(&mut self, fresh: &Run) {
+        let mut run = *fresh;
+        for _ in 0..self.random.below(2 * fresh.job.tasks as u64) {
+            let event = runs::event(self.random, &run);
+            run = run::step(&run, event).unwrap_or(run);
+        }
+        if run::is_finished(&run) {
+            run = *fresh;
+        }
+        let refused = self.random.chance(40);
+        let log = runs::long_log(self.random, &run, refused);
+        let number = self.followed(&run, log);
+        self.tally.long_logs.accepted += u64::from(number == 0);
+        self.tally.long_logs.refused += u64::from(number != 0);
+    }
+
     fn log(&mut self, run: &Run) {
         let run = match self.random.below(10) {
             0..=1 => runs::changed(self.random, run),
@@ -309,9 +332,15 @@ impl Check<'_> {
         } else {
             runs::log(self.random, &run)
         };
-        let library = library::follow(&run, &log);
-        let reference = calls::follow(&run, &log);
+        self.followed(&run, log);
+    }
+
+    /// A log by library and reference; the reference's number.
+    fn followed(&mut self, run: &Run, log: Vec<u8>) -> u64 {
+        let library = library::follow(run, &log);
+        let reference = calls::follow(run, &log);
         self.tally.count(Call::Follow, reference.number);
         self.tally.same("follow", &self.sheet, &(run, log), &library, &reference);
+        reference.number
     }
 }

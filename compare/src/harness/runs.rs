@@ -3,7 +3,7 @@
 use crate::log_writer;
 use crate::random::Random;
 use crate::reference::run::{self, MAX_TOTAL};
-use crate::types::{Event, Job, Run, MAX_TASKS, RECORD_SIZE};
+use crate::types::{Event, Job, Platform, Run, MAX_TASKS, RECORD_SIZE};
 
 const ANY_LOST: [u32; 5] = [0, 1, 1 << 30, (1 << 30) + 1, u32::MAX];
 
@@ -164,6 +164,47 @@ pub fn log(r: &mut Random, run: &Run) -> Vec<u8> {
         if run::is_finished(&now) && r.chance(90) {
             break;
         }
+    }
+    bytes
+}
+
+/// Records of a long log.
+pub const LONG: usize = 10_000;
+
+/// Whether a long log cannot pass 2^40: an event takes three of these values at
+/// most, so that 10,000 of them stay below 2^39.
+pub fn may_be_long(job: &Job) -> bool {
+    let Platform { cd, cm, v, rd, rm, .. } = job.platform;
+    let costs = [cd, cm, v, rd, rm];
+    costs.iter().chain(job.task_weights()).all(|&ticks| ticks <= 1 << 24)
+}
+
+/// An event in turn after which the run goes on: the last verification fails.
+fn goes_on(r: &mut Random, run: &Run) -> Event {
+    if run.place.awaits() && run.place.position == run.job.tasks {
+        return Event::Failed;
+    }
+    in_turn(r, run)
+}
+
+/// A log of 10,000 records in turn. The last may be one that is refused: out
+/// of turn, with too many lost ticks, or unknown.
+pub fn long_log(r: &mut Random, run: &Run, refused: bool) -> Vec<u8> {
+    let mut bytes = Vec::new();
+    let mut now = *run;
+    for _ in 1..LONG {
+        let event = goes_on(r, &now);
+        bytes.extend(log_writer::record(event));
+        now = run::step(&now, event).expect("an event in turn");
+    }
+    let last = goes_on(r, &now);
+    bytes.extend(log_writer::record(last));
+    if refused {
+        bytes[RECORD_SIZE * (LONG - 1)] = match (r.below(2), now.place.awaits()) {
+            (0, true) => 1,
+            (0, false) => 2,
+            _ => 5,
+        };
     }
     bytes
 }

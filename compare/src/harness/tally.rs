@@ -49,6 +49,14 @@ pub struct Plans {
     pub long_near_limit: u64,
 }
 
+/// Logs of 10,000 records.
+#[derive(Default)]
+pub struct LongLogs {
+    pub accepted: u64,
+    /// At the last record.
+    pub refused: u64,
+}
+
 /// Joins at an edge.
 #[derive(Default)]
 pub struct Joins {
@@ -151,6 +159,7 @@ pub struct Tally {
     pub over_limit: u64,
     pub plans: Plans,
     pub joins: Joins,
+    pub long_logs: LongLogs,
     pub refills: Refills,
     pub printed: Printed,
     pub strays: Strays,
@@ -221,7 +230,7 @@ impl Tally {
     }
 
     /// How often each edge was seen.
-    fn edges(&self) -> [(&'static str, u64); 55] {
+    fn edges(&self) -> [(&'static str, u64); 57] {
         let (l, j, r) = (&self.plans, &self.joins, &self.refills);
         let (p, s) = (&self.printed, &self.strays);
         let (e, d) = (&self.energies, &self.dearer);
@@ -281,6 +290,8 @@ impl Tally {
             ("none raised", d.none),
             ("raised to 2^30", d.to_limit),
             ("in other order", d.other_order),
+            ("10,000 records", self.long_logs.accepted),
+            ("refused by last", self.long_logs.refused),
         ]
     }
 

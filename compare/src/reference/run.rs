@@ -1,5 +1,5 @@
-//! Following a run by its history: the events are kept, and the state is
-//! worked out anew from all of them after each step.
+//! Following a run by its history: what each event did is kept, and the state
+//! is worked out anew from all of it after each step.
 
 use crate::reference::setting;
 use crate::reference::sheet;
@@ -72,12 +72,14 @@ struct Saved {
 }
 
 /// One time a task was done, and whether that work was lost later.
+#[derive(Clone)]
 struct Attempt {
     task: usize,
     lost: bool,
 }
 
 /// The events of a history, applied one after the other.
+#[derive(Clone)]
 struct Replay {
     base: Run,
     attempts: Vec<Attempt>,
@@ -224,42 +226,34 @@ impl Replay {
     }
 }
 
-/// A run: the state it was taken up in and every event since.
+/// A run: where it stands, and its history since it was taken up.
 pub struct History {
-    base: Run,
-    events: Vec<Event>,
+    run: Run,
+    replay: Option<Replay>,
 }
 
 impl History {
-    /// A run taken up in a state, fresh or not.
+    /// A run taken up in a state, fresh or not. A broken one cannot be
+    /// replayed, and no event asks for that.
     pub fn new(base: &Run) -> History {
-        History { base: *base, events: Vec::new() }
+        History { run: *base, replay: None }
     }
 
-    fn replay(&self) -> Replay {
-        let mut replay = Replay::new(&self.base);
-        self.events.iter().for_each(|&event| replay.apply(event));
-        replay
-    }
-
-    /// The state after all events. A broken base cannot be replayed.
+    /// The state after all events.
     pub fn run(&self) -> Run {
-        if self.events.is_empty() {
-            return self.base;
-        }
-        self.replay().run()
+        self.run
     }
 
     /// One event: refusals 21 to 25, or the event joins the history.
     pub fn step(&mut self, event: Event) -> Result<Run, Refusal> {
-        check_turn(&self.run(), event)?;
-        let mut replay = self.replay();
+        check_turn(&self.run, event)?;
+        let mut replay = self.replay.clone().unwrap_or_else(|| Replay::new(&self.run));
         replay.apply(event);
         let run = replay.run();
         if run.place.sums.total() > MAX_TOTAL {
             return Err(25);
         }
-        self.events.push(event);
+        *self = History { run, replay: Some(replay) };
         Ok(run)
     }
 }

@@ -1,2 +1,3 @@
 -- Definitions that proofs work with and that no reader has to believe.
 pub mod Ready
+pub mod After

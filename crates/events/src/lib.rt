@@ -2,25 +2,19 @@
 ghost use mathlib.Core.Path.{_≡_};
 ghost use mathlib.Core.Bool.{cond};
 ghost use lib.Dec.{eqb};
-ghost use Rattle.rules.specs.Rules.{marksIn};
-ghost use Rattle.rules.specs.Working.Sound.{SoundRun};
-ghost use Rattle.events.specs.Events.{lastMemory, lastDisk, afterDone, afterPassed, backToMemory, backToDisk};
-ghost use Rattle.events.specs.Working.Ready.{TaskRuns, ReadyToMove, backAt};
-use chain::DISK;
-use chain::MEMORY;
-use charges::rd_at;
-use charges::rm_at;
+ghost use Rattle.events.specs.Working.Ready.{InRange, ReadyToGoBack, ReadyToMove};
+ghost use Rattle.events.specs.Working.After.{backAt, AfterDone, AfterPassed, AfterFailed, AfterStopped};
+use carried::Saved;
+use charges::rd_of;
+use charges::rm_of;
 use charges::saves_paid;
-use charges::v_at;
+use charges::v_of;
 use charges::verify_paid;
-use job::Job;
-use job::totals::weight_to;
+use job::Platform;
 use job::totals::wide;
-use rules::positions::last_copy;
 use rules::positions::mark_at;
 use rules::positions::weight_at;
 use state::Place;
-use state::Run;
 use state::Sums;
 
 // What happens in a run; Stopped carries its lost ticks.
@@ -32,17 +26,16 @@ pub enum Event {
 }
 
 // The run stands at a copy, and the weights after it move from kept to redone.
-fn back_to(job: Job, copy: usize, sums: Sums) -> Place
-    requires { ⌜ ReadyToMove job copy sums ⌝ }
-    ensures { λ r. ⌜ r ≡ backAt job copy sums ⌝ }
+fn back_to(copy: Saved, sums: Sums) -> Place
+    requires { ⌜ ReadyToMove copy sums ⌝ }
+    ensures { λ r. ⌜ r ≡ backAt copy sums ⌝ }
 {
-    let weights = job.weights;
-    let ticks = sums.kept - weight_to(weights, copy);
+    let ticks = sums.kept - copy.kept;
     let mut moved = sums;
     moved.kept -= ticks;
     moved.redone += ticks;
     Place {
-        position: copy,
+        position: copy.position,
         awaiting: 0,
         sums: moved,
     }
@@ -59,30 +52,31 @@ fn awaited(mark: u8) -> u8
 }
 
 // Done: the running task's weight joins kept. If its mark is not 0, its verification is awaited.
-pub fn after_done(run: Run) -> Place
-    requires { ⌜ TaskRuns run ⌝ }
-    ensures { λ r. ⌜ r ≡ afterDone (run .job) (marksIn run) (run .place) ⌝ }
+pub fn after_done(weights: &[u32], marks: &[u8], place: Place) -> Place
+    requires { ⌜ InRange place ⌝ }
+    ensures { λ r. ⌜ AfterDone (now (weights .entry)) (now (marks .entry)) place r ⌝ }
 {
-    let p = run.place.position;
-    let mut sums = run.place.sums;
-    sums.kept += weight_at(run.job, p);
+    let p = place.position;
+    let next = p + 1;
+    let mut sums = place.sums;
+    sums.kept += weight_at(weights, p);
     Place {
-        position: p + 1,
-        awaiting: awaited(mark_at(run, p + 1)),
+        position: next,
+        awaiting: awaited(mark_at(marks, next)),
         sums,
     }
 }
 
 // Passed: the mark's payments join verify and saves.
-pub fn after_passed(run: Run) -> Place
-    requires { ⌜ SoundRun run ⌝ }
-    ensures { λ r. ⌜ r ≡ afterPassed (run .job) (marksIn run) (run .place) ⌝ }
+pub fn after_passed(platform: Platform, marks: &[u8], place: Place) -> Place
+    requires { ⌜ InRange place ⌝ }
+    ensures { λ r. ⌜ AfterPassed platform (now (marks .entry)) place r ⌝ }
 {
-    let p = run.place.position;
-    let mark = mark_at(run, p);
-    let mut sums = run.place.sums;
-    sums.verify += verify_paid(run.job, mark, p);
-    sums.saves += saves_paid(run.job, mark, p);
+    let p = place.position;
+    let mark = mark_at(marks, p);
+    let mut sums = place.sums;
+    sums.verify += verify_paid(platform, mark, p);
+    sums.saves += saves_paid(platform, mark, p);
     Place {
         position: p,
         awaiting: 0,
@@ -91,26 +85,23 @@ pub fn after_passed(run: Run) -> Place
 }
 
 // Failed: V joins verify, R_M' joins recovery, and the run stands at the last memory copy.
-pub fn after_failed(run: Run) -> Place
-    requires { ⌜ SoundRun run ⌝ }
-    ensures { λ r. ⌜ r ≡ backToMemory (run .job) (run .place) (lastMemory (marksIn run) (run .place .position)) ⌝ }
+pub fn after_failed(platform: Platform, place: Place, memory: Saved) -> Place
+    requires { ⌜ ReadyToGoBack place memory ⌝ }
+    ensures { λ r. ⌜ AfterFailed platform place memory r ⌝ }
 {
-    let p = run.place.position;
-    let m = last_copy(run, MEMORY, p);
-    let mut sums = run.place.sums;
-    sums.verify += v_at(run.job, p);
-    sums.recovery += rm_at(run.job, m);
-    back_to(run.job, m, sums)
+    let mut sums = place.sums;
+    sums.verify += v_of(platform, place.position);
+    sums.recovery += rm_of(platform, memory.position);
+    back_to(memory, sums)
 }
 
 // Stopped: the lost ticks join redone, R_D' joins recovery, and the run stands at the last disk copy.
-pub fn after_stopped(run: Run, lost: u32) -> Place
-    requires { ⌜ TaskRuns run ⌝ }
-    ensures { λ r. ⌜ r ≡ backToDisk (run .job) (run .place) (lastDisk (marksIn run) (run .place .position)) lost ⌝ }
+pub fn after_stopped(platform: Platform, place: Place, disk: Saved, lost: u32) -> Place
+    requires { ⌜ ReadyToGoBack place disk ⌝ }
+    ensures { λ r. ⌜ AfterStopped platform place disk lost r ⌝ }
 {
-    let d = last_copy(run, DISK, run.place.position + 1);
-    let mut sums = run.place.sums;
+    let mut sums = place.sums;
     sums.redone += wide(lost);
-    sums.recovery += rd_at(run.job, d);
-    back_to(run.job, d, sums)
+    sums.recovery += rd_of(platform, disk.position);
+    back_to(disk, sums)
 }

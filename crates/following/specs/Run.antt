@@ -32,15 +32,18 @@ overWeight run Passed = false
 overWeight run Failed = false
 overWeight run (Stopped lost) = ltb (weightAt (run .job .weights) (run .place .position)) lost
 
--- refusals 21 to 25, in their order; 25: the new total would pass 2^40
-abbrev pub stepConditions : Run → Event → List Condition
-stepConditions run event =
-    refusal Numbers.broken (broken run)
-    ∷ refusal Numbers.finished (finished run)
+-- refusals 22 to 25, in their order; 25: the new total would pass 2^40
+abbrev pub eventConditions : Run → Event → List Condition
+eventConditions run event =
+    refusal Numbers.finished (finished run)
     ∷ refusal Numbers.outOfTurn (outOfTurn (awaits (run .place)) event)
     ∷ refusal Numbers.overWeight (overWeight run event)
     ∷ refusal Numbers.overTotal (overTotal (nextPlace run event .sums))
     ∷ []
+
+-- refusals 21 to 25, in their order
+abbrev pub stepConditions : Run → Event → List Condition
+stepConditions run event = refusal Numbers.broken (broken run) ∷ eventConditions run event
 
 unfoldable pub stepRefusal : Run → Event → ℕ
 stepRefusal run event = first (stepConditions run event)

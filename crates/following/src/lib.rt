@@ -1,113 +1,158 @@
-// Following a run of document 01: its step from event to event, with refusals 21 to 25.
+// Following a run of document 01 from event to event, with refusals 22 to 25. The state has been tested for 21; its weights and marks are lent.
 ghost use mathlib.Core.Path.{_≡_};
-ghost use mathlib.Core.Bool.{cond};
-ghost use Rattle.refusals.specs.Numbers;
-ghost use Rattle.rules.specs.Rules.{awaits, overTotal};
-ghost use Rattle.following.specs.Run.{standing, accepted, refused, stepOf};
-ghost use Rattle.following.specs.Working.Ready.{ReadyForEvent};
+ghost use mathlib.Core.Bool.{not};
+ghost use lib.Dec.{eqb};
+ghost use Rattle.following.specs.Run.{outOfTurn};
+ghost use Rattle.following.specs.Working.Lent.{answered, lentRun, OverWeight, ReadyToMove, NextIs, carrying, carriedOn, ReadyForEvent, Moves};
+use carried::Carried;
+use carried::Saved;
+use carried::over_mark;
 use events::Event;
 use events::after_done;
 use events::after_failed;
 use events::after_passed;
 use events::after_stopped;
+use job::Platform;
 use job::totals::wide;
 use refusals::ACCEPTED;
-use refusals::BROKEN;
 use refusals::FINISHED;
 use refusals::OUT_OF_TURN;
 use refusals::OVER_TOTAL;
 use refusals::OVER_WEIGHT;
-use rules::broken;
 use rules::finished;
 use rules::over_total;
+use rules::positions::mark_at;
 use rules::positions::weight_at;
 use state::Place;
 use state::Run;
 
-// The answer to an event or a log: 0 and the next state, or the refusal and the state given.
+// The answer to a log: 0 and the next state, or the refusal and the state given.
 #[repr(C)]
 pub struct Stepped {
     pub number: u64,
     pub run: Run,
 }
 
-pub fn accepted(run: Run) -> Stepped
-    ensures { λ r. ⌜ r ≡ accepted run ⌝ }
-{
-    Stepped {
-        number: ACCEPTED,
-        run,
-    }
+// The answer to an event: 0 and what is carried on, or the refusal and what was carried.
+pub struct Moved {
+    pub number: u64,
+    pub carried: Carried,
 }
 
-pub fn refused(number: u64, run: Run) -> Stepped
-    ensures { λ r. ⌜ r ≡ refused number run ⌝ }
+pub fn answered(number: u64, run: Run) -> Stepped
+    ensures { λ r. ⌜ r ≡ answered number run ⌝ }
 {
     Stepped { number, run }
 }
 
-// The run at its next place, unless the new total would pass the limit.
-fn arrived(run: Run, next: Place) -> Stepped
-    ensures { λ r. ⌜ r ≡ cond (overTotal (next .sums)) (refused Numbers.overTotal run) (accepted (standing run next)) ⌝ }
+// 23: Done or Stopped while a verification is awaited, Passed or Failed otherwise.
+fn out_of_turn(awaiting: u8, event: Event) -> bool
+    ensures { λ r. ⌜ r ≡ outOfTurn (not (eqb awaiting 0)) event ⌝ }
 {
-    if over_total(next.sums) {
-        return refused(OVER_TOTAL, run);
-    }
-    let mut moved = run;
-    moved.place = next;
-    accepted(moved)
-}
-
-// Done. `step` has tested 21 and 22, so that no place or sum here passes its range; the same holds for Stopped.
-fn done(run: Run) -> Stepped
-    requires { ⌜ ReadyForEvent run ⌝ }
-    ensures { λ r. ⌜ r ≡ stepOf run Event.Done ⌝ }
-{
-    if run.place.awaiting != 0 {
-        return refused(OUT_OF_TURN, run);
-    }
-    arrived(run, after_done(run))
-}
-
-// Passed or Failed, and the place that it leads to.
-fn judged(run: Run, next: Place) -> Stepped
-    ensures { λ r. ⌜ r ≡ cond (awaits (run .place)) (cond (overTotal (next .sums)) (refused Numbers.overTotal run) (accepted (standing run next))) (refused Numbers.outOfTurn run) ⌝ }
-{
-    if run.place.awaiting == 0 {
-        return refused(OUT_OF_TURN, run);
-    }
-    arrived(run, next)
-}
-
-// Stopped.
-fn stopped(run: Run, lost: u32) -> Stepped
-    requires { ⌜ ReadyForEvent run ⌝ }
-    ensures { λ r. ⌜ r ≡ stepOf run (Event.Stopped lost) ⌝ }
-{
-    if run.place.awaiting != 0 {
-        return refused(OUT_OF_TURN, run);
-    }
-    let p = run.place.position;
-    if weight_at(run.job, p) < wide(lost) {
-        return refused(OVER_WEIGHT, run);
-    }
-    arrived(run, after_stopped(run, lost))
-}
-
-// One event: the next state, or the first refusal among 21 to 25 and the state unchanged.
-pub fn step(run: Run, event: Event) -> Stepped
-    ensures { λ r. ⌜ r ≡ stepOf run event ⌝ }
-{
-    if broken(run) {
-        return refused(BROKEN, run);
-    }
-    if finished(run) {
-        return refused(FINISHED, run);
-    }
     match event {
-        Event::Done => done(run),
-        Event::Passed => judged(run, after_passed(run)),
-        Event::Failed => judged(run, after_failed(run)),
-        Event::Stopped(lost) => stopped(run, lost),
+        Event::Done => awaiting != 0,
+        Event::Passed => awaiting == 0,
+        Event::Failed => awaiting == 0,
+        Event::Stopped(_) => awaiting != 0,
+    }
+}
+
+// 24: lost ticks above the running task's weight.
+fn over_weight(weights: &[u32], position: usize, event: Event) -> bool
+    ensures { λ r. ⌜ OverWeight (now (weights .entry)) position event r ⌝ }
+{
+    match event {
+        Event::Done => false,
+        Event::Passed => false,
+        Event::Failed => false,
+        Event::Stopped(lost) => weight_at(weights, position) < wide(lost),
+    }
+}
+
+// The place after an event in its turn.
+fn next_place(
+    platform: Platform,
+    weights: &[u32],
+    marks: &[u8],
+    carried: Carried,
+    event: Event,
+) -> Place
+    requires { ⌜ ReadyToMove (now weights) (now marks) carried event ⌝ }
+    ensures { λ r. ⌜ NextIs platform (now (weights .entry)) (now (marks .entry)) (carried .place) event r ⌝ }
+{
+    let place = carried.place;
+    match event {
+        Event::Done => after_done(weights, marks, place),
+        Event::Passed => after_passed(platform, marks, place),
+        Event::Failed => after_failed(platform, place, carried.memory),
+        Event::Stopped(lost) => after_stopped(platform, place, carried.disk, lost),
+    }
+}
+
+fn carrying(place: Place, memory: Saved, disk: Saved) -> Carried
+    ensures { λ r. ⌜ r ≡ carrying place memory disk ⌝ }
+{
+    Carried {
+        place,
+        memory,
+        disk,
+    }
+}
+
+// What is carried on from an event that led to this place: a passed mark may save copies, and a stop loses what memory held after the last disk copy.
+fn carried_on(marks: &[u8], before: Carried, place: Place, event: Event) -> Carried
+    ensures { λ r. ⌜ r ≡ carriedOn (now (marks .entry)) before place event ⌝ }
+{
+    let memory = before.memory;
+    let disk = before.disk;
+    match event {
+        Event::Done => carrying(place, memory, disk),
+        Event::Passed => over_mark(mark_at(marks, place.position), before, place),
+        Event::Failed => carrying(place, memory, disk),
+        Event::Stopped(_) => carrying(place, disk, disk),
+    }
+}
+
+// One event of a run that 21 accepts: what is carried on, or the first refusal among 22 to 25.
+pub fn step(
+    tasks: usize,
+    platform: Platform,
+    weights: &[u32],
+    marks: &[u8],
+    carried: Carried,
+    event: Event,
+) -> Moved
+    requires { ⌜ ReadyForEvent (lentRun tasks platform (now weights) (now marks) carried) carried ⌝ }
+    ensures { λ r. ⌜ Moves (lentRun tasks platform (now (weights .entry)) (now (marks .entry)) carried) event r ⌝ }
+{
+    let place = carried.place;
+    if finished(tasks, place) {
+        return Moved {
+            number: FINISHED,
+            carried,
+        };
+    }
+    if out_of_turn(place.awaiting, event) {
+        return Moved {
+            number: OUT_OF_TURN,
+            carried,
+        };
+    }
+    if over_weight(weights, place.position, event) {
+        return Moved {
+            number: OVER_WEIGHT,
+            carried,
+        };
+    }
+    let next = next_place(platform, weights, marks, carried, event);
+    if over_total(next.sums) {
+        return Moved {
+            number: OVER_TOTAL,
+            carried,
+        };
+    }
+    Moved {
+        number: ACCEPTED,
+        carried: carried_on(marks, carried, next, event),
     }
 }

@@ -26,9 +26,9 @@ use Rattle.logs.specs.Log.{logOf}
 use Rattle.logs.proofs.Records.{accepted-is}
 use Rattle.history.specs.Events.{steps, eventsOf, tried, taken, triedLogs, takenLogs}
 use Rattle.history.specs.Counts.{placeOf, ticks}
-use Rattle.history.proofs.StepsAccepted.{Begun, start-begun}
+use Rattle.history.proofs.StartsAccepted.{Begun, start-begun}
 use Rattle.history.proofs.Histories.{follows-history, ticks-are-sums}
-use Rattle.history.proofs.StatesUnbroken.{step-refused-same}
+use Rattle.following.proofs.Steps.{step-refused-same}
 use Rattle.history.proofs.Logs.{steps-append, one-step, log-is-steps, log-refused-same}
 
 -- accepted events, then what others lead to

@@ -23,7 +23,6 @@ use Rattle.costs.specs.Costs.{vAt, cmAt, cdAt, rdAt, rmAt, verifyPaid, savesPai
 use Rattle.events.specs.Events.{lastMemory, lastDisk, afterDone, afterPassed, backToMemory, backToDisk, placeAfter}
 use Rattle.following.specs.Run.{nextPlace, outOfTurn, overWeight, stepRefusal, standing, accepted, refused, stepOf}
 use Rattle.rules.specs.Rules.{marksIn, awaits, brokenValues, badAwaiting, overTotal, brokenPlace, broken, finished}
-use Rattle.following.specs.Working.Ready.{ReadyForEvent}
 use Rattle.state.specs.declared.Run.{Run}
 use Rattle.events.specs.declared.Event.{Event}
 use Rattle.events.specs.declared.Event.the-variants.{Done, Passed, Failed, Stopped}
@@ -31,10 +30,9 @@ use Rattle.state.specs.declared.Place.{Place}
 use Rattle.following.specs.declared.Stepped.{Stepped}
 use Rattle.rules.proofs.Copies.{last-up-to}
 use Rattle.rules.proofs.Soundness.{run-place}
-use Rattle.following.proofs.Steps.{task-runs}
+use Rattle.following.proofs.Steps.{step-accepted, task-runs}
 use Rattle.logs.specs.Log.{recordCount, recordAt, badRecord, eventOf, recorded, applied, orBefore, emptyLog, logOf}
 use Rattle.history.specs.Entries.{withEntries, answerWith, Agree}
-use Rattle.history.proofs.StepsAccepted.{step-accepted}
 
 -- lists that agree up to n agree at each entry below n
 below : (n : ℕ) (l k : List ℕ) → take n l ≡ take n k → (j : ℕ) → j < n → getD l j 0 ≡ getD k j 0
@@ -114,21 +112,21 @@ module _ (run : Run) (w m : List ℕ) (agree : Agree run w m) where
   broken-same = rw (values-same, place-same)
 
   -- an event in its turn
-  module _ (ready : ReadyForEvent run) where
+  module _ (right : broken run ≡ false) (unfinished : finished run ≡ false) where
     within : run .place .position ≤ run .job .tasks
-    within = run-place run (ready .unbroken) .position
+    within = run-place run right .position
 
     weight-over : (e : Event) → outOfTurn (awaits (run .place)) e ≡ false → overWeight other e ≡ overWeight run e
     unfolding outOfTurn overWeight
     weight-over Done t = refl
     weight-over Passed t = refl
     weight-over Failed t = refl
-    weight-over (Stopped lost) t = rw (weight-same (run .place .position) (task-runs run ready t .running))
+    weight-over (Stopped lost) t = rw (weight-same (run .place .position) (task-runs run right unfinished t))
 
     next-same : (e : Event) → outOfTurn (awaits (run .place)) e ≡ false → nextPlace other e ≡ nextPlace run e
     unfolding outOfTurn nextPlace placeAfter afterDone afterPassed backToMemory backToDisk verifyPaid savesPaid vAt cmAt cdAt rdAt rmAt
     next-same Done t =
-        let l = task-runs run ready t .running in
+        let l = task-runs run right unfinished t in
         rw (mark-same (suc (run .place .position)) l, weight-same (run .place .position) l)
     next-same Passed t = rw (mark-same (run .place .position) within)
     next-same Failed t =
@@ -149,10 +147,10 @@ module _ (run : Run) (w m : List ℕ) (agree : Agree run w m) where
   refusal-same e =
       first-same Numbers.broken _ _ _ _ broken-same
       (λ b. first-same Numbers.finished _ _ _ _ refl
-      (λ f. let ready : ReadyForEvent run = record { unbroken = sym broken-same ∙ b; unfinished = f } in
+      (λ f. let right = sym broken-same ∙ b in
       first-same Numbers.outOfTurn _ _ _ _ refl
-      (λ t. first-same Numbers.overWeight _ _ _ _ (weight-over ready e t)
-      (λ o. first-same Numbers.overTotal _ _ _ _ (ap (λ (p : Place). overTotal (p .sums)) (next-same ready e t)) (λ z. refl)))))
+      (λ t. first-same Numbers.overWeight _ _ _ _ (weight-over right f e t)
+      (λ o. first-same Numbers.overTotal _ _ _ _ (ap (λ (p : Place). overTotal (p .sums)) (next-same right f e t)) (λ z. refl)))))
 
   step-unread : (e : Event) → stepOf (withEntries run w m) e ≡ answerWith (stepOf run e) w m
   unfolding stepOf
@@ -167,7 +165,7 @@ module _ (run : Run) (w m : List ℕ) (agree : Agree run w m) where
           (record { number = stepRefusal run e; run = withEntries (cond (eqb (stepRefusal run e) 0) (standing run (nextPlace run e)) run) w m })
       go (yes z) =
           let a = step-accepted run e z in
-          rw (eq-eqb _ _ z, next-same (record { unbroken = a .unbroken; unfinished = a .unfinished }) e (a .in-turn))
+          rw (eq-eqb _ _ z, next-same (a .unbroken) (a .unfinished) e (a .in-turn))
       go (no z) = rw (ne-eqb _ _ z)
 
 -- entries past task n change no answer and are carried along unread

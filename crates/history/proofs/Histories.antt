@@ -32,7 +32,7 @@ use Rattle.history.specs.Events.{steps}
 use Rattle.history.specs.History.{History, atStart, happened, historyFrom, history}
 use Rattle.history.specs.Counts.{countFrom, count, joinsKept, moves, joinsRedone, joinsVerify, joinsSaves, joinsRecovery, sumsOf, placeOf, ticksOf, ticks}
 use Rattle.history.specs.States.{historyAt, Added, Plain, StepCounts}
-use Rattle.history.proofs.StepsAccepted.{step-accepted}
+use Rattle.following.proofs.Steps.{step-accepted}
 use Rattle.history.proofs.Copies.{history-goes-on}
 
 -- what a mark pays, by its row of the table and by its number

@@ -1,6 +1,5 @@
 -- The theorems on followed runs, their histories and their logs.
-pub mod StepsAccepted
-pub mod StatesUnbroken
+pub mod StartsAccepted
 pub mod Copies
 pub mod Histories
 pub mod Logs

@@ -19,7 +19,7 @@ use Rattle.state.specs.declared.Run.{Run}
 use Rattle.events.specs.declared.Event.{Event}
 use Rattle.following.specs.declared.Stepped.{Stepped}
 use Rattle.logs.specs.Log.{recordCount, recordAt, badRecord, eventOf, recorded, applied, orBefore, emptyLog, logOf}
-use Rattle.logs.proofs.Records.{accepted-is, applied-stays}
+use Rattle.logs.proofs.Records.{accepted-is, recorded-event, recorded-accepted, applied-stays}
 use Rattle.history.specs.Events.{steps, GoodRecords, eventsTo, eventsOf}
 
 -- events, then others
@@ -56,11 +56,6 @@ no-record : (run : Run) (log : List ℕ) → applied run log zero ≡ steps run 
 unfolding applied eventsTo steps
 no-record run log = refl
 
--- a record that 12 accepts is its event
-pub recorded-event : (s : Stepped) (r : List ℕ) → badRecord r ≡ false → recorded s r ≡ cond (eqb (s .number) 0) (stepOf (s .run) (eventOf r)) s
-unfolding recorded
-recorded-event s r e = rw e
-
 record-more : (run : Run) (log : List ℕ) (k : ℕ) → applied run log k ≡ steps run (eventsTo log k) → badRecord (recordAt log k) ≡ false
     → applied run log (suc k) ≡ steps run (eventsTo log (suc k))
 unfolding applied eventsTo
@@ -82,15 +77,6 @@ unfolding logOf
 log-empty run = refl
 
 -- an accepted record follows accepted ones, and 12 accepts it
-pub recorded-accepted : (s : Stepped) (r : List ℕ) → recorded s r .number ≡ 0 → (s .number ≡ 0) × (badRecord r ≡ false)
-unfolding recorded
-recorded-accepted s r e = go (ℕ-discrete (s .number) 0) (badRecord r) refl
-  where
-    go : Dec (s .number ≡ 0) → (b : Bool) → badRecord r ≡ b → (s .number ≡ 0) × (badRecord r ≡ false)
-    go (yes z) true q = absurd (omega (arith, rw (eq-eqb _ _ z, q) at e))
-    go (yes z) false q = (z, q)
-    go (no z) b q = absurd (z (rw (ne-eqb _ _ z) at e))
-
 pub applied-good : (run : Run) (log : List ℕ) (k : ℕ) → applied run log k .number ≡ 0 → GoodRecords log k
 unfolding applied
 applied-good run log zero e i h = absurd (omega arith)

@@ -14,14 +14,14 @@ use lib.Seq.{take-append-le, drop-append-le, drop-append-add}
 use Rattle.lists.proofs.Lists.{or-fails}
 use Rattle.refusals.specs.Numbers
 use Rattle.rules.specs.Rules.{broken}
-use Rattle.following.specs.Run.{stepOf, accepted, refused}
+use Rattle.following.specs.Run.{accepted, refused}
 use Rattle.state.specs.declared.Run.{Run}
 use Rattle.following.specs.declared.Stepped.{Stepped}
-use Rattle.logs.specs.Log.{recordLength, recordCount, recordAt, badRecord, eventOf, recorded, applied, orBefore, emptyLog, logOf}
+use Rattle.logs.specs.Log.{recordLength, recordCount, recordAt, badRecord, recorded, applied, orBefore, emptyLog, logOf}
 use Rattle.logs.proofs.Records.{accepted-is, recorded-refused, applied-zero, applied-suc}
+use Rattle.logs.proofs.Once.{applied-unbroken}
 use Rattle.history.specs.Events.{OneLog}
-use Rattle.history.proofs.StatesUnbroken.{step-keeps-sound}
-use Rattle.history.proofs.Logs.{recorded-accepted, before-number, before-accepted, before-refused, log-some, recorded-event, none-same, log-refused-same, applied-good}
+use Rattle.history.proofs.Logs.{before-number, before-accepted, before-refused, log-some, none-same, log-refused-same, applied-good}
 
 -- the answer to records after s
 after : Stepped → List ℕ → ℕ → Stepped
@@ -113,18 +113,6 @@ module _ (a b : List ℕ) (k : ℕ) (whole : length a ≡ recordLength * k) wher
         both-answer h
         ∙ ap (orBefore run) (after-refused (applied run a k) b (recordCount b) (λ z. r (first-number h ∙ z)))
         ∙ sym (first-answer h)
-
--- an accepted record leaves a state that 21 accepts
-recorded-unbroken : (s : Stepped) (r : List ℕ) → recorded s r .number ≡ 0 → broken (recorded s r .run) ≡ false
-recorded-unbroken s r z =
-    let clear = recorded-accepted s r z in
-    let event : recorded s r ≡ stepOf (s .run) (eventOf r) = recorded-event s r (clear .1) ∙ rw (eq-eqb _ _ (clear .0)) in
-    rw event (step-keeps-sound (s .run) (eventOf r) (λ b. omega (arith, ap (λ (t : Stepped). t .number) event, b, z)))
-
-applied-unbroken : (run : Run) (log : List ℕ) (k : ℕ) → 0 < k → applied run log k .number ≡ 0 → broken (applied run log k .run) ≡ false
-applied-unbroken run log zero h z = absurd (omega arith)
-applied-unbroken run log (suc k) h z =
-    rw (applied-suc run log k) (recorded-unbroken (applied run log k) (recordAt log k) (ap (λ (s : Stepped). s .number) (sym (applied-suc run log k)) ∙ z))
 
 -- handing back an earlier state still, once refused
 before-before : (run middle : Run) (s : Stepped) → orBefore run (orBefore middle s) ≡ orBefore run s

@@ -1,10 +1,10 @@
 -- Any state as a history that goes on, and what an accepted event does to it.
-use Prim.Native.Nat.{ℕ, suc, _+_}
+use Prim.Native.Nat.{_+_}
 use mathlib.Core.Path.{_≡_}
 use mathlib.Core.Bool.{cond}
 use Rattle.chain.specs.Time.{Marks, memory, disk, last}
 use Rattle.job.specs.declared.Job.{Job}
-use Rattle.rules.specs.Rules.{totalOf, marksIn, awaits}
+use Rattle.rules.specs.Rules.{totalOf, marksIn, awaits, passedBefore}
 use Rattle.state.specs.declared.Sums.{Sums}
 use Rattle.state.specs.declared.Place.{Place}
 use Rattle.state.specs.declared.Run.{Run}
@@ -13,18 +13,14 @@ use Rattle.events.specs.declared.Event.{Event}
 use Rattle.history.specs.History.{History, happened}
 use Rattle.history.specs.Counts.{joinsKept, moves, joinsRedone, joinsVerify, joinsSaves, joinsRecovery, ticksOf}
 
--- the marks that a state has passed are those before this position: its own while its verification is awaited, or the next
-abbrev pub passedBefore : Run → ℕ
-passedBefore run = cond (awaits (run .place)) (run .place .position) (suc (run .place .position))
-
 -- a state as a history that goes on: the copies are the last ones that the marks passed have saved
 unfoldable pub historyAt : Run → History
 historyAt run =
     record {
       position = run .place .position;
       awaiting = awaits (run .place);
-      inMemory = last memory (marksIn run) (passedBefore run);
-      onDisk = last disk (marksIn run) (passedBefore run);
+      inMemory = last memory (marksIn run) (passedBefore (run .place));
+      onDisk = last disk (marksIn run) (passedBefore (run .place));
     }
 
 -- what an event adds to the sums: to each by itself, and together the event's ticks

@@ -2,13 +2,14 @@
 -- Assumes nothing.
 use Prim.Native.Nat.{ℕ, zero, suc, _+_, _-_, _*_, _≤_, _<_}
 use mathlib.Core.Path.{_≡_, refl, sym, _∙_}
-use mathlib.Core.Bool.{true, false}
+use mathlib.Core.Bool.{Bool, true, false, cond}
 use mathlib.Core.List.{List}
 use mathlib.Core.Logic.{_⊎_, inl, inr}
 use native.Mathlib.Nat.{eq-or-lt-of-le, le-of-suc-le-suc}
-use native.Mathlib.Numerals.{add-one}
+use native.Mathlib.Decide.{ℕ-discrete}
 use native.Mathlib.Omega.{arith}
 use borrow.Author.Tests.{eq-eqb, ne-eqb}
+use lib.Dec.{eqb}
 use lib.ListN.{length, take, drop, length-drop}
 use lib.Seq.{take-all}
 use Rattle.refusals.specs.Numbers
@@ -34,14 +35,24 @@ pub recorded-refused : (s : Stepped) (r : List ℕ) → (s .number ≡ 0 → ⊥
 unfolding recorded
 recorded-refused s r h = rw (ne-eqb _ _ h)
 
--- one record more, bad or an event
-pub bad-recorded : (run : Run) (r : List ℕ) → badRecord r ≡ true → refused Numbers.badRecord run ≡ recorded (accepted run) r
+-- one record more: bad, or an event
+pub recorded-bad : (run : Run) (r : List ℕ) → badRecord r ≡ true → recorded (accepted run) r ≡ refused Numbers.badRecord run
 unfolding recorded
-bad-recorded run r e = rw e
+recorded-bad run r e = rw e
 
-pub event-recorded : (run : Run) (r : List ℕ) → badRecord r ≡ false → stepOf run (eventOf r) ≡ recorded (accepted run) r
+pub recorded-event : (s : Stepped) (r : List ℕ) → badRecord r ≡ false → recorded s r ≡ cond (eqb (s .number) 0) (stepOf (s .run) (eventOf r)) s
 unfolding recorded
-event-recorded run r e = rw e
+recorded-event s r e = rw e
+
+-- an accepted record: nothing was refused before it, and it is an event
+pub recorded-accepted : (s : Stepped) (r : List ℕ) → recorded s r .number ≡ 0 → (s .number ≡ 0) × (badRecord r ≡ false)
+unfolding recorded
+recorded-accepted s r e = go (ℕ-discrete (s .number) 0) (badRecord r) refl
+  where
+    go : Dec (s .number ≡ 0) → (b : Bool) → badRecord r ≡ b → (s .number ≡ 0) × (badRecord r ≡ false)
+    go (yes z) true q = absurd (omega (arith, rw (eq-eqb _ _ z, q) at e))
+    go (yes z) false q = (z, q)
+    go (no z) b q = absurd (z (rw (ne-eqb _ _ z) at e))
 
 pub accepted-is : (a : Stepped) → a .number ≡ 0 → a ≡ accepted (a .run)
 accepted-is a e = rw (← e)
@@ -66,18 +77,10 @@ module _ (run : Run) (log : List ℕ) where
       go (inl e) ih = rw e
       go (inr l) ih = rw (ih (le-of-suc-le-suc l) r) (recorded-refused (applied run log k) (recordAt log n) r)
 
-  -- the answer to record k, where the records before it are accepted
-  module _ (k : ℕ) (state : Run) (before : applied run log k ≡ accepted state) (a : Stepped) (is : a ≡ recorded (accepted state) (recordAt log k)) where
-    pub applied-more : applied run log (k + 1) ≡ a
-    unfolding applied
-    applied-more = rw (add-one k, before) (sym is)
-
-    pub applied-stops : (a .number ≡ 0 → ⊥) → (n : ℕ) → k < n → refused (a .number) run ≡ orBefore run (applied run log n)
-    unfolding orBefore
-    applied-stops r n h =
-        let e : applied run log n ≡ a = applied-stays (k + 1) n (omega arith) (rw applied-more r) ∙ applied-more in
-        rw (e, ne-eqb _ _ r)
-
-  pub applied-all : (n : ℕ) (a : Stepped) → applied run log n ≡ a → a .number ≡ 0 → a ≡ orBefore run (applied run log n)
+  -- where the first record is refused, its answer is that of the log
+  pub applied-first : (a : Stepped) → recorded (accepted run) (recordAt log 0) ≡ a → (a .number ≡ 0 → ⊥) → (n : ℕ) → 0 < n → orBefore run (applied run log n) ≡ refused (a .number) run
   unfolding orBefore
-  applied-all n a e z = rw (e, eq-eqb _ _ z)
+  applied-first a is r n h =
+      let first : applied run log 1 ≡ a = applied-suc 0 ∙ rw applied-zero is in
+      let e : applied run log n ≡ a = applied-stays 1 n h (rw first r) ∙ first in
+      rw (e, ne-eqb _ _ r)

@@ -4,7 +4,7 @@ use Prim.Native.Nat.{ℕ, zero, suc, _≤_}
 use mathlib.Core.Path.{_≡_, refl}
 use mathlib.Core.Bool.{false, not}
 use mathlib.Core.List.{List}
-use borrow.Author.Tests.{ltb-false, eqb-true, not-false}
+use borrow.Author.Tests.{ltb-false, eqb-true, not-false, le-ltb, eq-eqb}
 use native.Mathlib.Omega.{arith}
 use lib.Dec.{ltb, eqb}
 use lib.Seq.{getD-take}
@@ -73,6 +73,15 @@ place-passed job f place right =
       kept = eqb-true _ _ (not-false (eqb (place .sums .kept) weight) (after-kept .0));
       sums = ltb-false totalLimit (totalOf (place .sums)) (after-kept .1);
     }
+
+-- and a place that keeps the rules passes
+pub place-unbroken : (job : Job) (f : Marks) (place : Place) → PlacePassed job f place → brokenPlace job f place ≡ false
+unfolding brokenPlace overTotal
+place-unbroken job f place keeps = rw (le-ltb _ _ (keeps .position), keeps .awaiting, eq-eqb _ _ (keeps .kept)) (le-ltb _ _ (keeps .sums))
+
+pub unbroken : (run : Run) → brokenValues (run .job) (marksRead run) ≡ false → PlacePassed (run .job) (marksIn run) (run .place) → broken run ≡ false
+unfolding broken
+unbroken run values keeps = rw values (place-unbroken (run .job) (marksIn run) (run .place) keeps)
 
 -- its position is one of a task count that passed check 3
 pub position-range : {run : Run} → SoundRun run → run .place .position ≤ taskLimit

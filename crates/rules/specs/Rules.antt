@@ -1,6 +1,6 @@
 -- What document 01 asks of the state of a run: refusals 21 and 22, and the total of the sums, which 25 asks too.
-use Prim.Native.Nat.{ℕ, _+_, _^_}
-use mathlib.Core.Bool.{Bool, not, _||_, _&&_}
+use Prim.Native.Nat.{ℕ, suc, _+_, _^_}
+use mathlib.Core.Bool.{Bool, not, _||_, _&&_, cond}
 use mathlib.Core.List.{List, _∷_, _++_}
 use lib.Dec.{ltb, eqb}
 use lib.ListN.{take}
@@ -63,5 +63,12 @@ unfoldable pub broken : Run → Bool
 broken run = brokenValues (run .job) (marksRead run) || brokenPlace (run .job) (marksIn run) (run .place)
 
 -- 22: finished, that is, position n and nothing awaited
+abbrev pub finishedAt : (n : ℕ) → Place → Bool
+finishedAt n place = eqb (place .position) n && not (awaits place)
+
 unfoldable pub finished : Run → Bool
-finished run = eqb (run .place .position) (run .job .tasks) && not (awaits (run .place))
+finished run = finishedAt (run .job .tasks) (run .place)
+
+-- the marks that a run has passed are those before this position: its own while its verification is awaited, or the next
+abbrev pub passedBefore : Place → ℕ
+passedBefore place = cond (awaits place) (place .position) (suc (place .position))

@@ -3,7 +3,7 @@ ghost use mathlib.Core.Path.{_≡_};
 ghost use Prim.Native.Nat.{_≤_};
 ghost use Rattle.refusals.specs.Refusals.{first};
 ghost use Rattle.units.specs.Limits.{taskLimit};
-ghost use Rattle.rules.specs.Rules.{marksIn, marksRead, valueConditions, badAwaiting, overTotal, brokenPlace, broken, finished};
+ghost use Rattle.rules.specs.Rules.{marksIn, marksRead, valueConditions, badAwaiting, overTotal, brokenPlace, broken, finishedAt};
 
 pub mod positions;
 
@@ -13,6 +13,7 @@ use job::totals::weight_to;
 use marks::marks_refusal;
 use positions::mark_at;
 use refusals::BAD_COUNT;
+use state::Place;
 use state::Run;
 use state::Sums;
 
@@ -44,13 +45,13 @@ pub fn over_total(sums: Sums) -> bool
 
 // A verification is awaited where the mark is 0; the start has none.
 fn bad_awaiting(run: Run) -> bool
-    requires { ⌜ run .place .position ≤ taskLimit ⌝ }
     ensures { λ r. ⌜ r ≡ badAwaiting (marksIn run) (run .place) ⌝ }
 {
     if run.place.awaiting == 0 {
         return false;
     }
-    mark_at(run, run.place.position) == 0
+    let marks = run.marks;
+    mark_at(&marks[..], run.place.position) == 0
 }
 
 // What 21 asks of position, awaited verification and sums. The task count has passed check 3.
@@ -99,11 +100,11 @@ pub fn broken(run: Run) -> bool
 }
 
 // 22: position n and nothing awaited.
-pub fn finished(run: Run) -> bool
-    ensures { λ r. ⌜ r ≡ finished run ⌝ }
+pub fn finished(tasks: usize, place: Place) -> bool
+    ensures { λ r. ⌜ r ≡ finishedAt tasks place ⌝ }
 {
-    if run.place.position != run.job.tasks {
+    if place.position != tasks {
         return false;
     }
-    run.place.awaiting == 0
+    place.awaiting == 0
 }

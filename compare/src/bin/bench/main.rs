@@ -1,6 +1,6 @@
 //! `bench`: the library's plan beside two Rust planners, a plain one and one
 //! with bounds as the library has them, its plan by energy beside that by time,
-//! and how many prices and steps a second.
+//! how many prices and steps a second, and what a record of a log takes.
 
 // Loops go by positions, as the equations do.
 #![allow(clippy::needless_range_loop)]
@@ -8,17 +8,21 @@
 mod bounded;
 mod bounds;
 mod cases;
+mod follower;
 mod pairs;
 mod plain;
 mod rows;
 mod stretch;
 mod timing;
 
+use compare::harness::runs;
 use compare::library;
+use compare::random::Random;
+use compare::reference::log;
 use compare::reference::run;
 use compare::reference::setting;
 use compare::reference::sheet;
-use compare::types::{Event, Job, Powers, Run, MAX_TASKS};
+use compare::types::{Event, Job, Platform, Powers, Run, MAX_TASKS};
 use rows::Plan;
 use std::hint::black_box;
 use timing::{median, timed};
@@ -197,11 +201,54 @@ fn calls() {
     }
 }
 
+/// Small costs and weights, so that no total passes 2^40; marks 1, 2, 1, 3 in
+/// turn and the last 3.
+fn long_run(n: usize) -> Run {
+    let platform = Platform { failstop: 1, silent: 1, cd: 9, cm: 3, v: 2, rd: 8, rm: 4 };
+    let job = Job::new(platform, &vec![100; n]);
+    let mut marks: Vec<u8> = [1, 2, 1, 3].into_iter().cycle().take(n).collect();
+    marks[n - 1] = 3;
+    run::start(&cases::sheet(&job), &marks).expect("an allowed setting")
+}
+
+/// Nanoseconds a record, by the median of 31 rounds in turn, of a log of
+/// 10,000 records: the library, a follower in Rust that is written for speed,
+/// and, once, the reference.
+fn logs() {
+    println!("a log of {} records, nanoseconds a record", runs::LONG);
+    println!(
+        "{:<12}{:>6}{:>11}{:>11}{:>15}{:>11}",
+        "", "tasks", "library", "follower", "lib/follower", "reference"
+    );
+    let a_record = |micros: f64| micros * 1e3 / runs::LONG as f64;
+    for n in SIZES {
+        let run = long_run(n);
+        let log = runs::long_log(&mut Random::new(n as u64), &run, false);
+        let reference = timed(1, || assert!(log::follow(&run, &log).is_ok()));
+        let expected = log::follow(&run, &log);
+        assert_eq!(Ok(library::follow(&run, &log).run), expected, "the library's log");
+        assert_eq!(follower::follow(&run, &log), expected, "the follower's log");
+        let (mut ours, mut theirs) = (Vec::new(), Vec::new());
+        for _ in 0..31 {
+            ours.push(timed(20, || library::follow(black_box(&run), black_box(&log))));
+            theirs.push(timed(20, || follower::follow(black_box(&run), black_box(&log))));
+        }
+        let (a, b) = (a_record(median(ours)), a_record(median(theirs)));
+        println!("{:<12}{n:>6}{a:>11.1}{b:>11.1}{:>15.2}{:>11.0}", "", a / b, a_record(reference));
+    }
+}
+
+/// All parts, or the one that the first argument names.
 fn main() {
     println!("library: {}", library::NAME);
-    plans();
-    energies();
-    calls();
+    let named = std::env::args().nth(1);
+    let parts: [(&str, fn()); 4] =
+        [("plans", plans), ("energies", energies), ("calls", calls), ("logs", logs)];
+    for (name, part) in parts {
+        if named.as_deref().is_none_or(|n| n == name) {
+            part();
+        }
+    }
 }
 
 #[cfg(test)]

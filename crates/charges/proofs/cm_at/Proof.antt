@@ -1,16 +1,17 @@
--- `charges::cm_at` meets its contract. Every position has the platform's cost. Assumes nothing.
+-- `charges::cm_at` meets its contract. It is the cost of the job's platform. Assumes nothing.
 use mathlib.Core.Path.{refl}
-use Rattle.costs.specs.Costs.{cmAt}
 use borrow.Author.Needs.{needs}
 use Rattle.charges.proofs.cm_at.Statement.{statement}
 use Rattle.charges.proofs.cm_at.Tie as tie
 
-cast-result : tie.Need-cast-result
-cast-result c = search needs
+cm-of-requires : tie.Need-cm-of-requires
+cm-of-requires c κs = search needs
 
 returns : tie.Need-returns
-unfolding cmAt
-returns c = record { value = refl; fits = search needs }
+returns c =
+    let args = c .before .args in
+    let cm-of = c .cm-of in
+    record { value = cm-of .ensures .value (args .job) refl; fits = cm-of .ensures .fits }
 
 pub cm-at-spec : {M : Type 1} → statement M
-cm-at-spec = tie.close (tie.spec cast-result returns)
+cm-at-spec = tie.close (tie.spec cm-of-requires returns)

@@ -1,37 +1,17 @@
--- `charges::rd_at` meets its contract. Both costs are 0 at the start and in full elsewhere, and so is their sum; two costs of 32 bits cannot wrap. Assumes nothing.
-use Prim.Native.Nat.{ℕ, _+_}
-use mathlib.Core.Path.{_≡_, refl}
-use mathlib.Core.Bool.{Bool, true, false, cond}
-use native.Mathlib.Omega.{arith}
-use lib.Dec.{eqb}
-use Rattle.costs.specs.Costs.{rdAt}
+-- `charges::rd_at` meets its contract. It is the cost of the job's platform. Assumes nothing.
+use mathlib.Core.Path.{refl}
 use borrow.Author.Needs.{needs}
 use Rattle.charges.proofs.rd_at.Statement.{statement}
 use Rattle.charges.proofs.rd_at.Tie as tie
 
-skipped-sum : (b : Bool) (x y : ℕ) → cond b 0 x + cond b 0 y ≡ cond b 0 (x + y)
-skipped-sum true x y = refl
-skipped-sum false x y = refl
-
-unless-start-requires : tie.Need-unless-start-requires
-unless-start-requires c κs = search needs
-
-unless-start-requires-2 : tie.Need-unless-start-requires-2
-unless-start-requires-2 c κs = search needs
-
-add-result : tie.Need-add-result
-add-result c = search needs
+rd-of-requires : tie.Need-rd-of-requires
+rd-of-requires c κs = search needs
 
 returns : tie.Need-returns
-unfolding rdAt
 returns c =
-    let args = c .before .before .args in
-    let disk = c .before .unless-start in
-    let memory = c .unless-start2 in
-    record {
-      value = rw (disk .ensures .value, memory .ensures .value) (skipped-sum (eqb (args .d) 0) (args .job .platform .rd) (args .job .platform .rm));
-      fits = omega (arith, disk .ensures .fits, memory .ensures .fits);
-    }
+    let args = c .before .args in
+    let rd-of = c .rd-of in
+    record { value = rd-of .ensures .value (args .job) refl; fits = rd-of .ensures .fits }
 
 pub rd-at-spec : {M : Type 1} → statement M
-rd-at-spec = tie.close (tie.spec unless-start-requires unless-start-requires-2 add-result returns)
+rd-at-spec = tie.close (tie.spec rd-of-requires returns)

@@ -1,152 +1,145 @@
--- `following::step` meets its contract. Refusals 21 and 22 by the branches; the rest is each event's own contract, at the event that was matched. Assumes nothing.
+-- `following::step` meets its contract: 22 to 25 in their order, then the next place and what is carried on. Assumes nothing.
 use mathlib.Core.Path.{refl, sym, _∙_}
-use Rattle.events.specs.declared.Event.the-variants.{Passed, Failed}
-use Rattle.following.proofs.Steps.{step-broken, step-judged, step-finished}
-use Rattle.following.specs.Working.Ready.{ReadyForEvent}
-use Rattle.following.specs.Run.{overWeight, outOfTurn, nextPlace}
-use Rattle.events.specs.Events.{placeAfter}
-use Rattle.rules.proofs.Soundness.{run-sound}
+use native.Mathlib.Omega.{arith}
+use Rattle.rules.specs.Rules.{finished}
+use Rattle.rules.proofs.Soundness.{run-sound, position-range}
+use Rattle.following.specs.Run.{nextPlace}
+use Rattle.following.specs.Working.Lent.{lentRun}
+use Rattle.following.proofs.Steps.{event-finished, event-out-of-turn, event-over-weight, event-over-total, event-accepted}
+use Rattle.following.proofs.Carries.{carries-on}
 use borrow.Author.Needs.{needs}
 use Rattle.following.proofs.step.Statement.{statement}
 use Rattle.following.proofs.step.Tie as tie
 
-broken-requires : tie.Need-broken-requires
-broken-requires c κs = search needs
-
-refused-requires : tie.Need-refused-requires
-refused-requires c κs = search needs
-
-returns : tie.Need-returns
-returns c =
-    let refused = c .refused in
-    let args = c .before .before .before .args in
-    let broken = c .before .before .broken in
-    let if1 = c .before .if1 in
-    refused .ensures ∙ step-broken (args .run) (args .event) (sym (broken .ensures) ∙ if1 .taken)
-
 finished-requires : tie.Need-finished-requires
 finished-requires c κs = search needs
 
-refused-requires-2 : tie.Need-refused-requires-2
-refused-requires-2 c κs = search needs
+returns : tie.Need-returns
+unfolding finished
+returns c =
+    let if1 = c .if1 in
+    let finished = c .before .finished in
+    let args = c .before .before .before .before .before .args in
+    record {
+      number = event-finished _ (args .event) (sym (finished .ensures) ∙ if1 .taken);
+      carries = λ z. absurd (omega (arith, z));
+    }
+
+out-of-turn-requires : tie.Need-out-of-turn-requires
+out-of-turn-requires c κs = search needs
 
 returns-2 : tie.Need-returns-2
+unfolding finished
 returns-2 c =
-    let refused2 = c .refused2 in
-    let args = c .before .before .before .before .before .args in
-    let broken = c .before .before .before .before .broken in
-    let if1 = c .before .before .before .if1 in
-    let finished = c .before .before .finished in
-    let if2 = c .before .if2 in
-    refused2 .ensures ∙ step-finished (args .run) (args .event) (sym (broken .ensures) ∙ if1 .left) (sym (finished .ensures) ∙ if2 .taken)
-
-enum-told : tie.Need-enum-told
-enum-told c = search needs
-
-done-requires : tie.Need-done-requires
-done-requires c κs =
-    let broken = c .before .before .before .before .before .broken in
-    let if1 = c .before .before .before .before .if1 in
+    let if2 = c .if2 in
+    let out-of-turn = c .before .out-of-turn in
+    let if1 = c .before .before .if1 in
     let finished = c .before .before .before .finished in
-    let if2 = c .before .before .if2 in
-    record { unbroken = sym (broken .ensures) ∙ if1 .left; unfinished = sym (finished .ensures) ∙ if2 .left }
+    let args = c .before .before .before .before .before .before .before .args in
+    record {
+      number = event-out-of-turn _ (args .event) (sym (finished .ensures) ∙ if1 .left) (sym (out-of-turn .ensures) ∙ if2 .taken);
+      carries = λ z. absurd (omega (arith, z));
+    }
 
-enum-told-2 : tie.Need-enum-told-2
-enum-told-2 c = search needs
-
-after-passed-requires : tie.Need-after-passed-requires
-after-passed-requires c κs =
-    let broken = c .before .before .before .before .before .broken in
-    let if1 = c .before .before .before .before .if1 in
-    run-sound _ (sym (broken .ensures) ∙ if1 .left)
-
-judged-requires : tie.Need-judged-requires
-judged-requires c κs = search needs
-
-enum-told-3 : tie.Need-enum-told-3
-enum-told-3 c = search needs
-
-after-failed-requires : tie.Need-after-failed-requires
-after-failed-requires c κs =
-    let broken = c .before .before .before .before .before .broken in
-    let if1 = c .before .before .before .before .if1 in
-    run-sound _ (sym (broken .ensures) ∙ if1 .left)
-
-judged-requires-2 : tie.Need-judged-requires-2
-judged-requires-2 c κs = search needs
-
-enum-known-event : tie.Need-enum-known-event
-enum-known-event c = search needs
-
-stopped-requires : tie.Need-stopped-requires
-stopped-requires c κs =
-    let broken = c .before .before .before .before .before .before .broken in
-    let if1 = c .before .before .before .before .before .if1 in
-    let finished = c .before .before .before .before .finished in
-    let if2 = c .before .before .before .if2 in
-    record { unbroken = sym (broken .ensures) ∙ if1 .left; unfinished = sym (finished .ensures) ∙ if2 .left }
+over-weight-requires : tie.Need-over-weight-requires
+over-weight-requires c κs = search needs
 
 returns-3 : tie.Need-returns-3
+unfolding finished
 returns-3 c =
-    let enum-told = c .before .enum-told in
-    let done = c .done in
-    rw (enum-told .given .1) (done .ensures)
+    let if3 = c .if3 in
+    let over-weight = c .before .over-weight in
+    let if2 = c .before .before .if2 in
+    let out-of-turn = c .before .before .before .out-of-turn in
+    let if1 = c .before .before .before .before .if1 in
+    let finished = c .before .before .before .before .before .finished in
+    let args = c .before .before .before .before .before .before .before .before .before .args in
+    let run = lentRun (args .tasks) (args .platform) (args .weights .now) (args .marks .now) (args .carried) in
+    record {
+      number =
+          event-over-weight run (args .event) (sym (finished .ensures) ∙ if1 .left) (sym (out-of-turn .ensures) ∙ if2 .left)
+          (sym (over-weight .ensures run refl refl) ∙ if3 .taken);
+      carries = λ z. absurd (omega (arith, z));
+    }
+
+next-place-requires : tie.Need-next-place-requires
+next-place-requires c κs =
+    let if2 = c .before .before .if2 in
+    let out-of-turn = c .before .before .before .out-of-turn in
+    let pre = c .before .before .before .before .before .before .before .before .before .pre in
+    let sound = run-sound _ (pre .unbroken) in
+    record {
+      range = record { position = position-range sound; sums = sound .sums };
+      kept = sound .kept;
+      memory-copy = pre .carries .memory-copy;
+      disk-copy = pre .carries .disk-copy;
+      turn = sym (out-of-turn .ensures) ∙ if2 .left;
+    }
+
+over-total-requires : tie.Need-over-total-requires
+over-total-requires c κs = search needs
 
 returns-4 : tie.Need-returns-4
-unfolding outOfTurn overWeight nextPlace placeAfter
+unfolding finished nextPlace
 returns-4 c =
-    let enum-told2 = c .before .before .enum-told2 in
-    let after-passed = c .before .after-passed in
-    let judged = c .judged in
-    let args = c .before .before .before .before .before .before .before .before .args in
-    let broken = c .before .before .before .before .before .before .before .broken in
-    let if1 = c .before .before .before .before .before .before .if1 in
-    let finished = c .before .before .before .before .before .finished in
-    let if2 = c .before .before .before .before .if2 in
-    let ready : ReadyForEvent (args .run) = record { unbroken = sym (broken .ensures) ∙ if1 .left; unfinished = sym (finished .ensures) ∙ if2 .left } in
-    rw (enum-told2 .given .1) (judged .ensures ∙ step-judged (args .run) Passed ready (λ b. refl) refl (after-passed .result) (after-passed .ensures))
+    let if4 = c .if4 in
+    let over-total = c .before .over-total in
+    let next-place = c .before .before .next-place in
+    let if3 = c .before .before .before .if3 in
+    let over-weight = c .before .before .before .before .over-weight in
+    let if2 = c .before .before .before .before .before .if2 in
+    let out-of-turn = c .before .before .before .before .before .before .out-of-turn in
+    let if1 = c .before .before .before .before .before .before .before .if1 in
+    let finished = c .before .before .before .before .before .before .before .before .finished in
+    let args = c .before .before .before .before .before .before .before .before .before .before .before .before .args in
+    let run = lentRun (args .tasks) (args .platform) (args .weights .now) (args .marks .now) (args .carried) in
+    record {
+      number =
+          event-over-total run (args .event) (sym (finished .ensures) ∙ if1 .left) (sym (out-of-turn .ensures) ∙ if2 .left)
+          (sym (over-weight .ensures run refl refl) ∙ if3 .left) (rw (← (next-place .ensures (run .job) refl refl)) (sym (over-total .ensures) ∙ if4 .taken));
+      carries = λ z. absurd (omega (arith, z));
+    }
+
+carried-on-requires : tie.Need-carried-on-requires
+carried-on-requires c κs = search needs
 
 returns-5 : tie.Need-returns-5
-unfolding outOfTurn overWeight nextPlace placeAfter
+unfolding finished nextPlace
 returns-5 c =
-    let enum-told3 = c .before .before .enum-told3 in
-    let after-failed = c .before .after-failed in
-    let judged2 = c .judged2 in
-    let args = c .before .before .before .before .before .before .before .before .args in
-    let broken = c .before .before .before .before .before .before .before .broken in
-    let if1 = c .before .before .before .before .before .before .if1 in
-    let finished = c .before .before .before .before .before .finished in
-    let if2 = c .before .before .before .before .if2 in
-    let ready : ReadyForEvent (args .run) = record { unbroken = sym (broken .ensures) ∙ if1 .left; unfinished = sym (finished .ensures) ∙ if2 .left } in
-    rw (enum-told3 .given .1) (judged2 .ensures ∙ step-judged (args .run) Failed ready (λ b. refl) refl (after-failed .result) (after-failed .ensures))
-
-returns-6 : tie.Need-returns-6
-returns-6 c =
-    let event = c .before .before .event in
-    let stopped = c .stopped in
-    rw (event .given .1) (stopped .ensures)
+    let carried-on = c .carried-on in
+    let if4 = c .before .if4 in
+    let over-total = c .before .before .over-total in
+    let next-place = c .before .before .before .next-place in
+    let if3 = c .before .before .before .before .if3 in
+    let over-weight = c .before .before .before .before .before .over-weight in
+    let if2 = c .before .before .before .before .before .before .if2 in
+    let out-of-turn = c .before .before .before .before .before .before .before .out-of-turn in
+    let if1 = c .before .before .before .before .before .before .before .before .if1 in
+    let finished = c .before .before .before .before .before .before .before .before .before .finished in
+    let args = c .before .before .before .before .before .before .before .before .before .before .before .before .before .args in
+    let pre = c .before .before .before .before .before .before .before .before .before .before .before .before .before .pre in
+    let run = lentRun (args .tasks) (args .platform) (args .weights .now) (args .marks .now) (args .carried) in
+    let turn = sym (out-of-turn .ensures) ∙ if2 .left in
+    let next = next-place .ensures (run .job) refl refl in
+    record {
+      number =
+          event-accepted run (args .event) (sym (finished .ensures) ∙ if1 .left) turn
+          (sym (over-weight .ensures run refl refl) ∙ if3 .left) (rw (← next) (sym (over-total .ensures) ∙ if4 .left));
+      carries = λ z. rw (carried-on .ensures, next) (carries-on run (args .carried) pre (args .event) turn);
+    }
 
 pub step-spec : {M : Type 1} → statement M
 step-spec =
     tie.close
     (tie.spec
-    broken-requires
-    refused-requires
-    returns
     finished-requires
-    refused-requires-2
+    returns
+    out-of-turn-requires
     returns-2
-    enum-told
-    done-requires
-    enum-told-2
-    after-passed-requires
-    judged-requires
-    enum-told-3
-    after-failed-requires
-    judged-requires-2
-    enum-known-event
-    stopped-requires
+    over-weight-requires
     returns-3
+    next-place-requires
+    over-total-requires
     returns-4
-    returns-5
-    returns-6)
+    carried-on-requires
+    returns-5)

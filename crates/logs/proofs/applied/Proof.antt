@@ -1,28 +1,32 @@
--- `logs::applied` meets its contract. The loop's invariant: the records before i are accepted and lead to the answer at hand. A refusal at a record is the answer of the whole log. Assumes nothing.
+-- `logs::applied` meets its contract. The loop's invariant: the records before i are accepted and lead to the place at hand, which 21 accepts and whose copies are
+-- carried. A refusal at a record is the answer of the whole log. Assumes nothing.
 use Prim.Native.Nat.{ℕ, _-_, _≤_}
-use mathlib.Core.Path.{_≡_, sym, _∙_, ap}
+use mathlib.Core.Path.{_≡_, refl, sym, _∙_}
 use mathlib.Core.List.{List}
 use native.Mathlib.Omega.{arith}
-use Rattle.refusals.specs.Numbers
-use Rattle.following.specs.Run.{refused}
+use Rattle.carried.proofs.Copies.{carries-own}
+use Rattle.following.specs.Run.{standing, accepted}
+use Rattle.following.specs.Working.Lent.{lentRun, ReadyForEvent, eventRefusal}
+use Rattle.following.proofs.Unbroken.{event-keeps-sound}
 use Rattle.state.specs.declared.Run.{Run}
-use Rattle.following.specs.declared.Stepped.{Stepped}
-use Rattle.logs.specs.Log.{recordCount, applied}
-use Rattle.logs.proofs.Records.{bad-recorded, event-recorded, applied-more, applied-stops, applied-all, accepted-is}
+use Rattle.carried.specs.declared.Carried.{Carried}
+use Rattle.logs.specs.Log.{recordCount}
+use Rattle.logs.specs.Working.Once.{appliedOn}
+use Rattle.logs.proofs.Once.{on-bad, on-refused, on-accepted, ends-refused, ends-accepted}
 use Rattle.logs.proofs.applied.Statement.{statement}
 use Rattle.logs.proofs.applied.Tie as tie
 use borrow.Author.Needs.{needs}
 
-record Followed (run : Run) (log : List ℕ) (count : ℕ) (answer : Stepped) (i : ℕ) : Type 0 where
+record Followed (run : Run) (log : List ℕ) (count : ℕ) (carried : Carried) (i : ℕ) : Type 0 where
   pub within : i ≤ count
-  pub leads : applied run log i ≡ answer
-  pub accepted : answer .number ≡ 0
+  pub leads : appliedOn run log i ≡ accepted (standing run (carried .place))
+  pub ready : ReadyForEvent (standing run (carried .place)) carried
 
 abbrev Inv-loop : tie.InvT-loop
-Inv-loop run log count answer₀ i₀ answer i = Followed run log count answer i
+Inv-loop tasks platform weights marks start log count carried₀ i₀ carried i = Followed (lentRun tasks platform weights marks start) log count carried i
 
 abbrev μ-loop : tie.MeasureT-loop
-μ-loop run log count answer₀ i₀ answer i = count - i
+μ-loop tasks platform weights marks start log count carried₀ i₀ carried i = count - i
 
 sub-count : tie.Need-sub-count Inv-loop μ-loop
 sub-count c = omega arith
@@ -30,12 +34,9 @@ sub-count c = omega arith
 add-count : tie.Need-add-count Inv-loop μ-loop
 add-count c = omega arith
 
-accepted-requires : tie.Need-accepted-requires Inv-loop μ-loop
-accepted-requires c κs = search needs
-
 loop-holds : tie.Need-loop-holds Inv-loop μ-loop
-unfolding applied
-loop-holds c = record { within = omega arith; leads = sym (c .accepted .ensures); accepted = ap (λ a. a .number) (c .accepted .ensures) }
+unfolding appliedOn
+loop-holds c = record { within = omega arith; leads = refl; ready = c .before .before .before .pre }
 
 record-at-requires : tie.Need-record-at-requires Inv-loop μ-loop
 unfolding recordCount
@@ -44,35 +45,41 @@ record-at-requires c κs = omega arith
 bad-record-requires : tie.Need-bad-record-requires Inv-loop μ-loop
 bad-record-requires c κs = search needs
 
-refused-requires : tie.Need-refused-requires Inv-loop μ-loop
-refused-requires c κs = search needs
+ended-requires : tie.Need-ended-requires Inv-loop μ-loop
+ended-requires c κs = search needs
 
 returns : tie.Need-returns Inv-loop μ-loop
 unfolding recordCount
 returns c =
+    let ended = c .ended in
     let if1 = c .before .if1 in
     let bad-record = c .before .before .bad-record in
     let record-at = c .before .before .before .record-at in
     let loop-test = c .before .before .before .before .loop-test in
     let loop = c .before .before .before .before .before .loop in
-    let args = c .before .before .before .before .before .before .before .before .args in
-    let state = loop .answer .run in
-    c .refused .ensures
-    ∙ applied-stops (args .run) (args .log .now) (loop .i) state (loop .inv .leads ∙ accepted-is (loop .answer) (loop .inv .accepted)) (refused Numbers.badRecord state)
-    (rw (← (record-at .ensures)) (bad-recorded state _ (sym (bad-record .ensures) ∙ if1 .taken))) (λ e. omega (arith, e)) _ (loop-test .taken)
+    let start = c .before .before .before .before .before .before .before .before .before in
+    let args = start .args in
+    let run = lentRun (args .tasks) (args .platform) (args .weights .now) (args .marks .now) (args .start) in
+    let answer =
+    on-bad run (args .log .now) (start .pre .unbroken) (loop .i) _ (loop .inv .leads)
+    (rw (← (record-at .ensures)) (sym (bad-record .ensures) ∙ if1 .taken)) _ (loop-test .taken) in
+    rw (ended .ensures) (ends-refused run (args .log .now) _ _ _ answer (λ z. omega (arith, z)))
 
 event-of-requires : tie.Need-event-of-requires Inv-loop μ-loop
 event-of-requires c κs = search needs
 
 step-requires : tie.Need-step-requires Inv-loop μ-loop
-step-requires c κs = search needs
+step-requires c κs =
+    let loop = c .before .before .before .before .before .loop in
+    loop .inv .ready
 
-refused-requires-2 : tie.Need-refused-requires-2 Inv-loop μ-loop
-refused-requires-2 c κs = search needs
+ended-requires-2 : tie.Need-ended-requires-2 Inv-loop μ-loop
+ended-requires-2 c κs = search needs
 
 returns-2 : tie.Need-returns-2 Inv-loop μ-loop
 unfolding recordCount
 returns-2 c =
+    let ended = c .ended2 in
     let if2 = c .before .if2 in
     let step = c .before .before .before .step in
     let event-of = c .before .before .before .before .event-of in
@@ -81,46 +88,63 @@ returns-2 c =
     let record-at = c .before .before .before .before .before .before .before .record-at in
     let loop-test = c .before .before .before .before .before .before .before .before .loop-test in
     let loop = c .before .before .before .before .before .before .before .before .before .loop in
-    let args = c .before .before .before .before .before .before .before .before .before .before .before .before .args in
-    let state = loop .answer .run in
-    c .refused2 .ensures
-    ∙ applied-stops (args .run) (args .log .now) (loop .i) state (loop .inv .leads ∙ accepted-is (loop .answer) (loop .inv .accepted)) (step .result)
-    (rw (← (record-at .ensures)) (step .ensures ∙ rw (event-of .ensures) (event-recorded state _ (sym (bad-record .ensures) ∙ if1 .left)))) (if2 .taken) _
-    (loop-test .taken)
+    let start = c .before .before .before .before .before .before .before .before .before .before .before .before .before in
+    let args = start .args in
+    let run = lentRun (args .tasks) (args .platform) (args .weights .now) (args .marks .now) (args .start) in
+    let refused : eventRefusal (standing run (loop .carried .place)) (event-of .result) ≡ 0 → ⊥ = rw (← (step .ensures .number)) (if2 .taken) in
+    let answer =
+    on-refused run (args .log .now) (start .pre .unbroken) (loop .i) _ (loop .inv .leads) (event-of .result)
+    (rw (← (record-at .ensures)) (sym (bad-record .ensures) ∙ if1 .left)) (rw (← (record-at .ensures)) (event-of .ensures)) refused _ (loop-test .taken) in
+    rw (ended .ensures, step .ensures .number) (ends-refused run (args .log .now) _ _ _ answer refused)
 
 add-i : tie.Need-add-i Inv-loop μ-loop
 add-i c =
     let known = c .before .before .before .before .before .before .before .before .before .before in
-    omega (arith, known)
+    omega (arith, c .before .before .before .before .before .before .before .before .loop-test .taken, known)
 
 loop-less : tie.Need-loop-less Inv-loop μ-loop
 loop-less c = omega arith
 
 loop-again : tie.Need-loop-again Inv-loop μ-loop
 loop-again c =
-    let step = c .before .before .step in
-    let event-of = c .before .before .before .event-of in
-    let if1 = c .before .before .before .before .if1 in
-    let bad-record = c .before .before .before .before .before .bad-record in
-    let record-at = c .before .before .before .before .before .before .record-at in
-    let loop = c .before .before .before .before .before .before .before .before .loop in
-    let args = c .before .before .before .before .before .before .before .before .before .before .before .args in
-    let state = loop .answer .run in
+    let if2 = c .before .if2 in
+    let step = c .before .before .before .step in
+    let event-of = c .before .before .before .before .event-of in
+    let if1 = c .before .before .before .before .before .if1 in
+    let bad-record = c .before .before .before .before .before .before .bad-record in
+    let record-at = c .before .before .before .before .before .before .before .record-at in
+    let loop = c .before .before .before .before .before .before .before .before .before .loop in
+    let start = c .before .before .before .before .before .before .before .before .before .before .before .before .before in
+    let args = start .args in
+    let run = lentRun (args .tasks) (args .platform) (args .weights .now) (args .marks .now) (args .start) in
+    let state = standing run (loop .carried .place) in
+    let carries = step .ensures .carries (if2 .left) in
+    let none = sym (step .ensures .number) ∙ if2 .left in
     record {
-      within = omega arith;
+      within = omega (arith, c .before .before .before .before .before .before .before .before .loop-test .taken);
       leads =
-          applied-more (args .run) (args .log .now) (loop .i) state (loop .inv .leads ∙ accepted-is (loop .answer) (loop .inv .accepted)) (step .result)
-          (rw (← (record-at .ensures)) (step .ensures ∙ rw (event-of .ensures) (event-recorded state _ (sym (bad-record .ensures) ∙ if1 .left))));
-      accepted = c .if2 .left;
+          rw (carries .place)
+          (on-accepted run (args .log .now) (start .pre .unbroken) (loop .i) state (loop .inv .leads) (event-of .result)
+          (rw (← (record-at .ensures)) (sym (bad-record .ensures) ∙ if1 .left)) (rw (← (record-at .ensures)) (event-of .ensures)) none);
+      ready =
+          record {
+            unbroken = rw (carries .place) (event-keeps-sound state (event-of .result) (loop .inv .ready .unbroken) none);
+            carries = carries-own carries;
+          };
     }
+
+ended-requires-3 : tie.Need-ended-requires-3 Inv-loop μ-loop
+ended-requires-3 c κs = search needs
 
 returns-3 : tie.Need-returns-3 Inv-loop μ-loop
 unfolding recordCount
 returns-3 c =
-    let loop = c .before .loop in
-    let args = c .before .before .before .before .args in
+    let ended = c .ended3 in
+    let loop = c .before .before .loop in
+    let args = c .before .before .before .before .before .before .args in
+    let run = lentRun (args .tasks) (args .platform) (args .weights .now) (args .marks .now) (args .start) in
     let e : loop .i ≡ recordCount (args .log .now) = omega arith in
-    applied-all (args .run) (args .log .now) _ (loop .answer) (rw (← e) (loop .inv .leads)) (loop .inv .accepted)
+    rw (ended .ensures) (ends-accepted run (args .log .now) _ _ (rw e at (loop .inv .leads)))
 
 pub applied-spec : {M : Type 1} → statement M
 applied-spec =
@@ -130,17 +154,17 @@ applied-spec =
     μ-loop
     sub-count
     add-count
-    accepted-requires
     loop-holds
     record-at-requires
     bad-record-requires
-    refused-requires
+    ended-requires
     returns
     event-of-requires
     step-requires
-    refused-requires-2
+    ended-requires-2
     returns-2
     add-i
     loop-less
     loop-again
+    ended-requires-3
     returns-3)
