@@ -9,6 +9,8 @@ use std::process::ExitCode;
 const SEED: u64 = 1;
 /// From this count on every refusal number is to be seen often enough.
 const COUNT: u64 = 100_000;
+/// One long log for so many sheets.
+const LONG_EVERY: u64 = 1000;
 
 fn argument(at: usize, default: u64) -> Result<u64, String> {
     match std::env::args().nth(at) {
@@ -42,11 +44,15 @@ fn main() -> ExitCode {
     println!("seed              {seed}");
     let mut tally = Tally::default();
     let mut random = Random::new(seed);
-    for _ in 0..count {
+    for sheet in 0..count {
         check::one(&mut random, &mut tally);
+        if sheet % LONG_EVERY == 0 {
+            check::long_log(&mut random, &mut tally);
+        }
     }
     tally.print();
     print_last_line(&tally);
-    let failed = tally.differences > 0 || (count >= COUNT && !tally.complete());
+    let complete = tally.complete() && tally.long_logs_complete();
+    let failed = tally.differences > 0 || (count >= COUNT && !complete);
     ExitCode::from(u8::from(failed))
 }

@@ -4,7 +4,7 @@ use compare::harness::changes::Changes;
 use compare::harness::check;
 use compare::harness::dearer::{self, Pair};
 use compare::harness::jobs;
-use compare::harness::tally::{Call, Tally, NUMBERS, WANTED};
+use compare::harness::tally::{Call, LongLogs, Tally, LONG_WANTED, NUMBERS, WANTED};
 use compare::random::Random;
 use compare::reference::energy::{self, EnergyCosts, MAX_POWER};
 use compare::reference::plan;
@@ -234,4 +234,16 @@ fn complete_needs_every_number_and_every_edge_often() {
         *edge(&mut tally) = WANTED;
     }
     assert!(tally.complete());
+}
+
+#[test]
+fn long_logs_are_to_be_accepted_and_refused() {
+    let mut tally = Tally::default();
+    check::long_log(&mut Random::new(3), &mut tally);
+    assert_eq!(tally.differences, 0);
+    assert_eq!(tally.long_logs.accepted + tally.long_logs.refused, 1);
+    tally.long_logs = LongLogs { accepted: LONG_WANTED, refused: 0 };
+    assert!(!tally.long_logs_complete());
+    tally.long_logs.refused = LONG_WANTED;
+    assert!(tally.long_logs_complete());
 }

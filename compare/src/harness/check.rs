@@ -21,9 +21,6 @@ use crate::reference::sheet;
 use crate::sheet_writer::HEADER_SIZE;
 use crate::types::{Answer, Event, Job, Outcome, Run, MAX_TASKS};
 
-/// One run in so many has a long log.
-const LONG_LOGS: u64 = 100;
-
 /// One sheet at hand, with what is drawn and counted.
 struct Check<'a> {
     random: &'a mut Random,
@@ -44,6 +41,20 @@ pub fn one(random: &mut Random, tally: &mut Tally) {
     check.all(&case);
     let Check { tally, sheet, .. } = check;
     tally.same("the lent sheet", &copy, &"unchanged", &sheet, &copy);
+}
+
+/// Makes a sheet, a run and a long log, and compares the log.
+pub fn long_log(random: &mut Random, tally: &mut Tally) {
+    loop {
+        let job = jobs::any(random, MAX_TASKS).job;
+        let sheet = sheets::whole(random, &job);
+        if sheet::read(&sheet).is_err() || !runs::may_be_long(&job) {
+            continue;
+        }
+        let marks = marks::allowed(random, &job);
+        let fresh = run::start(&sheet, &marks).expect("an allowed setting");
+        return Check { random, tally, sheet }.long_log(&fresh);
+    }
 }
 
 impl Check<'_> {
@@ -237,9 +248,6 @@ impl Check<'_> {
         let marks = marks::allowed(self.random, job);
         if let Some(fresh) = self.start(&marks) {
             self.follow_run(&fresh);
-            if self.random.below(LONG_LOGS) == 0 && runs::may_be_long(job) {
-                self.long_log(&fresh);
-            }
         }
     }
 

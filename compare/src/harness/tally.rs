@@ -27,6 +27,9 @@ pub const NUMBERS: [u64; 22] =
 /// How often each refusal is to be seen in the default run.
 pub const WANTED: u64 = 100;
 
+/// How often a long log is to be accepted, and refused, in the default run.
+pub const LONG_WANTED: u64 = 20;
+
 /// Differences printed in full.
 const SHOWN: u64 = 5;
 
@@ -50,7 +53,7 @@ pub struct Plans {
 }
 
 /// Logs of 10,000 records.
-#[derive(Default)]
+#[derive(Clone, Copy, Default)]
 pub struct LongLogs {
     pub accepted: u64,
     /// At the last record.
@@ -230,7 +233,7 @@ impl Tally {
     }
 
     /// How often each edge was seen.
-    fn edges(&self) -> [(&'static str, u64); 57] {
+    fn edges(&self) -> [(&'static str, u64); 55] {
         let (l, j, r) = (&self.plans, &self.joins, &self.refills);
         let (p, s) = (&self.printed, &self.strays);
         let (e, d) = (&self.energies, &self.dearer);
@@ -290,8 +293,6 @@ impl Tally {
             ("none raised", d.none),
             ("raised to 2^30", d.to_limit),
             ("in other order", d.other_order),
-            ("10,000 records", self.long_logs.accepted),
-            ("refused by last", self.long_logs.refused),
         ]
     }
 
@@ -299,6 +300,12 @@ impl Tally {
     pub fn complete(&self) -> bool {
         let edges = self.edges();
         NUMBERS.iter().all(|&n| self.seen(n) >= WANTED) && edges.iter().all(|e| e.1 >= WANTED)
+    }
+
+    /// Whether long logs of both kinds were seen often enough.
+    pub fn long_logs_complete(&self) -> bool {
+        let LongLogs { accepted, refused } = self.long_logs;
+        accepted >= LONG_WANTED && refused >= LONG_WANTED
     }
 
     /// Answers that fell though no cost did; each is a difference.
@@ -332,6 +339,8 @@ impl Tally {
         println!("starts            {}", self.calls(Call::Start));
         println!("steps             {}", self.calls(Call::Step));
         println!("logs              {}", self.calls(Call::Follow));
+        println!("of 10,000 records {}", self.long_logs.accepted);
+        println!("refused by last   {}", self.long_logs.refused);
         println!("growth sums       {}", self.growths);
         println!("times of 2^34 - 1 {}", self.at_limit);
         println!("times of 2^34     {}", self.over_limit);

@@ -18,17 +18,12 @@ use Rattle.job.specs.Job.{exponent, isAllowed}
 use Rattle.job.specs.Working.Sound.{CostsBounded, Sound}
 use Rattle.job.specs.declared.Job.{Job}
 use Rattle.job.specs.declared.Platform.{Platform}
-use Rattle.marks.specs.Pays.{paysOf}
-use Rattle.costs.specs.Costs.{vAt, cmAt, cdAt, rdAt, rmAt, verifyPaid, savesPaid}
+use Rattle.costs.specs.Costs.{vAt, cmAt, cdAt, rdAt, rmAt}
 use Rattle.costs.specs.Energy.{plain, ProductsFit}
 use Rattle.costs.specs.Working.Factors.{factorsOf, energyFactorsOf, ReadyForFactors, ReadyForEnergy, FactorsIfAllowed}
 use Rattle.costs.specs.declared.Powers.{Powers}
 
 -- a cost that a test may leave out
-chosen-range : (b : Bool) {x most : ℕ} → x ≤ most → cond b x 0 ≤ most
-chosen-range true h = h
-chosen-range false h = omega arith
-
 skipped-range : (b : Bool) {x most : ℕ} → x ≤ most → cond b 0 x ≤ most
 skipped-range true h = omega arith
 skipped-range false h = h
@@ -42,14 +37,6 @@ module _ (job : Job) (costs : CostsBounded (job .platform)) where
   unfolding vAt
   vAt-range v = costs .v
 
-  pub cmAt-range : (v : ℕ) → cmAt job v ≤ costLimit
-  unfolding cmAt
-  cmAt-range v = costs .cm
-
-  pub cdAt-range : (v : ℕ) → cdAt job v ≤ costLimit
-  unfolding cdAt
-  cdAt-range v = costs .cd
-
   pub rdAt-range : (d : ℕ) → rdAt job d ≤ 2 * costLimit
   unfolding rdAt
   rdAt-range d = skipped-range (eqb d 0) (omega (arith, costs .rd, costs .rm))
@@ -57,15 +44,6 @@ module _ (job : Job) (costs : CostsBounded (job .platform)) where
   pub rmAt-range : (m : ℕ) → rmAt job m ≤ costLimit
   unfolding rmAt
   rmAt-range m = skipped-range (eqb m 0) (costs .rm)
-
-  pub verifyPaid-range : (k v : ℕ) → verifyPaid job k v ≤ costLimit
-  unfolding verifyPaid
-  verifyPaid-range k v = chosen-range (paysOf k .v) (vAt-range v)
-
-  pub savesPaid-range : (k v : ℕ) → savesPaid job k v ≤ 2 * costLimit
-  unfolding savesPaid
-  savesPaid-range k v =
-      omega (arith, chosen-range (paysOf k .cm) (cmAt-range v), chosen-range (paysOf k .cd) (cdAt-range v))
 
 -- what is paid in energy at a position, and what its recoveries cost
 module _ (powers : Powers) (job : Job) (products : ProductsFit powers job) where

@@ -255,11 +255,16 @@ fn main() {
 mod tests {
     use crate::bounded;
     use crate::cases::{self, CLASSES};
+    use crate::follower;
     use crate::plain;
     use crate::rows::Plan;
     use compare::harness::jobs;
+    use compare::harness::marks;
+    use compare::harness::runs;
     use compare::random::Random;
+    use compare::reference::log;
     use compare::reference::plan;
+    use compare::reference::run;
     use compare::reference::setting::MAX_TIME;
     use compare::reference::sheet;
     use compare::types::Job;
@@ -323,6 +328,21 @@ mod tests {
                 for job in cases::jobs(class, n) {
                     assert_eq!(sheet::read(&cases::sheet(&job)), Ok(job), "{}", class.name);
                 }
+            }
+        }
+    }
+
+    /// From a state that 21 accepts, the follower has the reference's answer.
+    #[test]
+    fn follower_agrees_with_the_reference() {
+        let mut random = Random::new(7);
+        for _ in 0..2000 {
+            let job = jobs::any(&mut random, 24).job;
+            let marks = marks::allowed(&mut random, &job);
+            let Ok(run) = run::start(&cases::sheet(&job), &marks) else { continue };
+            let logs = [runs::log(&mut random, &run), runs::damaged_log(&mut random, &run)];
+            for log in logs {
+                assert_eq!(follower::follow(&run, &log), log::follow(&run, &log), "{log:?}");
             }
         }
     }
