@@ -4,15 +4,19 @@ use compare::harness::changes::Changes;
 use compare::harness::check;
 use compare::harness::dearer::{self, Pair};
 use compare::harness::jobs;
+use compare::harness::runs;
 use compare::harness::tally::{Call, LongLogs, Tally, LONG_WANTED, NUMBERS, WANTED};
 use compare::random::Random;
 use compare::reference::energy::{self, EnergyCosts, MAX_POWER};
+use compare::reference::log;
 use compare::reference::plan;
 use compare::reference::printed::{self, MAX_PRINTED_TASKS};
+use compare::reference::run;
 use compare::reference::setting::MAX_TIME;
 use compare::reference::sheet;
 use compare::reference::stretch::Table;
-use compare::types::{Answer, Platform, Powers};
+use compare::sheet_writer;
+use compare::types::{Answer, Platform, Powers, RECORD_SIZE};
 
 /// Two ways to one plan, on jobs made to have ties and edges.
 #[test]
@@ -238,12 +242,25 @@ fn complete_needs_every_number_and_every_edge_often() {
 
 #[test]
 fn long_logs_are_to_be_accepted_and_refused() {
-    let mut tally = Tally::default();
-    check::long_log(&mut Random::new(3), &mut tally);
-    assert_eq!(tally.differences, 0);
-    assert_eq!(tally.long_logs.accepted + tally.long_logs.refused, 1);
-    tally.long_logs = LongLogs { accepted: LONG_WANTED, refused: 0 };
-    assert!(!tally.long_logs_complete());
-    tally.long_logs.refused = LONG_WANTED;
-    assert!(tally.long_logs_complete());
+    let complete = |accepted, refused| {
+        let mut tally = Tally::default();
+        tally.long_logs = LongLogs { accepted, refused };
+        tally.long_logs_complete()
+    };
+    assert!(!complete(LONG_WANTED, 0));
+    assert!(!complete(0, LONG_WANTED));
+    assert!(complete(LONG_WANTED, LONG_WANTED));
+}
+
+/// A long log is accepted, or refused by its last record alone.
+#[test]
+fn long_logs_are_as_drawn() {
+    let platform = Platform { failstop: 1, silent: 1, cd: 9, cm: 3, v: 2, rd: 8, rm: 4 };
+    let sheet = sheet_writer::sheet(&platform, &[5, 6, 7]);
+    let run = run::start(&sheet, &[2, 1, 3]).unwrap();
+    let mut random = Random::new(3);
+    assert!(log::follow(&run, &runs::long_log(&mut random, &run, false)).is_ok());
+    let refused = runs::long_log(&mut random, &run, true);
+    assert!(log::follow(&run, &refused).is_err());
+    assert!(log::follow(&run, &refused[..refused.len() - RECORD_SIZE]).is_ok());
 }

@@ -187,8 +187,8 @@ fn goes_on(r: &mut Random, run: &Run) -> Event {
     in_turn(r, run)
 }
 
-/// A log of 10,000 records in turn. The last may be one that is refused: out
-/// of turn, with too many lost ticks, or unknown.
+/// A log of 10,000 records in turn. The last may be one that is refused: its
+/// code is that of an event out of turn, or none.
 pub fn long_log(r: &mut Random, run: &Run, refused: bool) -> Vec<u8> {
     let mut bytes = Vec::new();
     let mut now = *run;

@@ -339,8 +339,8 @@ impl Tally {
         println!("starts            {}", self.calls(Call::Start));
         println!("steps             {}", self.calls(Call::Step));
         println!("logs              {}", self.calls(Call::Follow));
-        println!("of 10,000 records {}", self.long_logs.accepted);
-        println!("refused by last   {}", self.long_logs.refused);
+        println!("of 10,000 records {} accepted", self.long_logs.accepted);
+        println!("                  {} refused by the last", self.long_logs.refused);
         println!("growth sums       {}", self.growths);
         println!("times of 2^34 - 1 {}", self.at_limit);
         println!("times of 2^34     {}", self.over_limit);

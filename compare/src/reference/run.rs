@@ -1,5 +1,6 @@
-//! Following a run by its history: what each event did is kept, and the state
-//! is worked out anew from all of it after each step.
+//! Following a run by its history: each attempt at a task and each copy is kept,
+//! and position, kept and redone are worked out anew from all of them after each
+//! step; what was paid is added up.
 
 use crate::reference::setting;
 use crate::reference::sheet;

@@ -52,12 +52,15 @@ stepRefusal run event = first (stepConditions run event)
 abbrev pub standing : Run → Place → Run
 standing run place = record { job = run .job; marks = run .marks; place = place }
 
--- a state with nothing refused, and a refusal with the state that it hands back
+-- an answer; a state with nothing refused, and a refusal with the state that it hands back
+abbrev pub answered : ℕ → Run → Stepped
+answered number run = record { number = number; run = run }
+
 abbrev pub accepted : Run → Stepped
-accepted run = record { number = Numbers.accepted; run = run }
+accepted run = answered Numbers.accepted run
 
 abbrev pub refused : ℕ → Run → Stepped
-refused number run = record { number = number; run = run }
+refused number run = answered number run
 
 -- what a step gives: 0 and the next state, or the first refusal that holds and the state unchanged
 unfoldable pub stepOf : Run → Event → Stepped

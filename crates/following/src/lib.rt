@@ -2,8 +2,8 @@
 ghost use mathlib.Core.Path.{_≡_};
 ghost use mathlib.Core.Bool.{not};
 ghost use lib.Dec.{eqb};
-ghost use Rattle.following.specs.Run.{outOfTurn};
-ghost use Rattle.following.specs.Working.Lent.{answered, lentRun, OverWeight, ReadyToMove, NextIs, carrying, carriedOn, ReadyForEvent, Moves};
+ghost use Rattle.following.specs.Run.{answered, outOfTurn};
+ghost use Rattle.following.specs.Working.Lent.{lentRun, OverWeight, carrying, arrived, ReadyForEvent, Moves};
 use carried::Carried;
 use carried::Saved;
 use carried::over_mark;
@@ -33,7 +33,7 @@ pub struct Stepped {
     pub run: Run,
 }
 
-// The answer to an event: 0 and what is carried on, or the refusal and what was carried.
+// The answer to an event: 0 and what is carried on, or the refusal.
 pub struct Moved {
     pub number: u64,
     pub carried: Carried,
@@ -69,26 +69,6 @@ fn over_weight(weights: &[u32], position: usize, event: Event) -> bool
     }
 }
 
-// The place after an event in its turn.
-fn next_place(
-    platform: Platform,
-    weights: &[u32],
-    marks: &[u8],
-    carried: Carried,
-    event: Event,
-) -> Place
-    requires { ⌜ ReadyToMove (now weights) (now marks) carried event ⌝ }
-    ensures { λ r. ⌜ NextIs platform (now (weights .entry)) (now (marks .entry)) (carried .place) event r ⌝ }
-{
-    let place = carried.place;
-    match event {
-        Event::Done => after_done(weights, marks, place),
-        Event::Passed => after_passed(platform, marks, place),
-        Event::Failed => after_failed(platform, place, carried.memory),
-        Event::Stopped(lost) => after_stopped(platform, place, carried.disk, lost),
-    }
-}
-
 fn carrying(place: Place, memory: Saved, disk: Saved) -> Carried
     ensures { λ r. ⌜ r ≡ carrying place memory disk ⌝ }
 {
@@ -99,21 +79,25 @@ fn carrying(place: Place, memory: Saved, disk: Saved) -> Carried
     }
 }
 
-// What is carried on from an event that led to this place: a passed mark may save copies, and a stop loses what memory held after the last disk copy.
-fn carried_on(marks: &[u8], before: Carried, place: Place, event: Event) -> Carried
-    ensures { λ r. ⌜ r ≡ carriedOn (now (marks .entry)) before place event ⌝ }
+// The run arrives at the next place, unless the new total would pass the limit.
+fn arrived(before: Carried, next: Carried) -> Moved
+    ensures { λ r. ⌜ r ≡ arrived before next ⌝ }
 {
-    let memory = before.memory;
-    let disk = before.disk;
-    match event {
-        Event::Done => carrying(place, memory, disk),
-        Event::Passed => over_mark(mark_at(marks, place.position), before, place),
-        Event::Failed => carrying(place, memory, disk),
-        Event::Stopped(_) => carrying(place, disk, disk),
+    let place = next.place;
+    if over_total(place.sums) {
+        return Moved {
+            number: OVER_TOTAL,
+            carried: before,
+        };
+    }
+    Moved {
+        number: ACCEPTED,
+        carried: next,
     }
 }
 
-// One event of a run that 21 accepts: what is carried on, or the first refusal among 22 to 25.
+// One event of a run that 21 accepts: what is carried on, or the first refusal among 22 to 25. A passed mark may save copies, and a stop loses what memory held after
+// the last disk copy.
 pub fn step(
     tasks: usize,
     platform: Platform,
@@ -126,6 +110,8 @@ pub fn step(
     ensures { λ r. ⌜ Moves (lentRun tasks platform (now (weights .entry)) (now (marks .entry)) carried) event r ⌝ }
 {
     let place = carried.place;
+    let memory = carried.memory;
+    let disk = carried.disk;
     if finished(tasks, place) {
         return Moved {
             number: FINISHED,
@@ -144,15 +130,26 @@ pub fn step(
             carried,
         };
     }
-    let next = next_place(platform, weights, marks, carried, event);
-    if over_total(next.sums) {
-        return Moved {
-            number: OVER_TOTAL,
+    match event {
+        Event::Done => arrived(
             carried,
-        };
-    }
-    Moved {
-        number: ACCEPTED,
-        carried: carried_on(marks, carried, next, event),
+            carrying(after_done(weights, marks, place), memory, disk),
+        ),
+        Event::Passed => arrived(
+            carried,
+            over_mark(
+                mark_at(marks, place.position),
+                carried,
+                after_passed(platform, marks, place),
+            ),
+        ),
+        Event::Failed => arrived(
+            carried,
+            carrying(after_failed(platform, place, memory), memory, disk),
+        ),
+        Event::Stopped(lost) => arrived(
+            carried,
+            carrying(after_stopped(platform, place, disk, lost), disk, disk),
+        ),
     }
 }

@@ -13,8 +13,8 @@ use lib.ListN.{length}
 use Rattle.refusals.specs.Numbers
 use Rattle.refusals.specs.Refusals.{first}
 use Rattle.rules.specs.Rules.{broken}
-use Rattle.following.specs.Run.{nextPlace, standing, stepOf, accepted, refused}
-use Rattle.following.specs.Working.Lent.{answered, eventRefusal, stepOn}
+use Rattle.following.specs.Run.{nextPlace, standing, stepOf, answered, accepted, refused}
+use Rattle.following.specs.Working.Lent.{eventRefusal, stepOn}
 use Rattle.following.proofs.Steps.{step-broken, step-on, step-on-accepted, step-on-refused}
 use Rattle.following.proofs.Unbroken.{step-keeps-sound}
 use Rattle.state.specs.declared.Place.{Place}

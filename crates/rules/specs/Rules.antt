@@ -1,4 +1,4 @@
--- What document 01 asks of the state of a run: refusals 21 and 22, and the total of the sums, which 25 asks too.
+-- What document 01 asks of the state of a run: refusals 21 and 22, the total of the sums, which 25 asks too, and which marks a run has passed.
 use Prim.Native.Nat.{ℕ, suc, _+_, _^_}
 use mathlib.Core.Bool.{Bool, not, _||_, _&&_, cond}
 use mathlib.Core.List.{List, _∷_, _++_}

@@ -19,17 +19,18 @@ pub fn weight_at(weights: &[u32], j: usize) -> u64
     wide(weights[j])
 }
 
-const NO_MARK: u8 = 0;
+// The start has no mark.
+const AT_START: u8 = 0;
 
-// The mark of position p; the start has none, nor is there one past the end of the marks.
+// The mark of position p; past the end of the marks it is 0.
 pub fn mark_at(marks: &[u8], p: usize) -> u8
     ensures { λ r. ⌜ r ≡ marksOf (now (marks .entry)) p ⌝ }
 {
     if p == 0 {
-        return NO_MARK;
+        return AT_START;
     }
     if marks.len() < p {
-        return NO_MARK;
+        return 0;
     }
     marks[p - 1]
 }

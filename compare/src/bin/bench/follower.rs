@@ -109,7 +109,7 @@ impl Follower<'_> {
     }
 }
 
-/// The state after a log, or its first refusal.
+/// The state after a log, or a refusal; 21 comes before 12 of the first record.
 pub fn follow(run: &Run, log: &[u8]) -> Result<Run, u64> {
     if run::is_broken(run) {
         return Err(21);

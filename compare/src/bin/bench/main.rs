@@ -25,6 +25,7 @@ use compare::reference::sheet;
 use compare::types::{Event, Job, Platform, Powers, Run, MAX_TASKS};
 use rows::Plan;
 use std::hint::black_box;
+use std::process::ExitCode;
 use timing::{median, timed};
 
 const SIZES: [usize; 4] = [8, 16, 32, 64];
@@ -238,17 +239,20 @@ fn logs() {
     }
 }
 
+const PARTS: [(&str, fn()); 4] =
+    [("plans", plans), ("energies", energies), ("calls", calls), ("logs", logs)];
+
 /// All parts, or the one that the first argument names.
-fn main() {
-    println!("library: {}", library::NAME);
+fn main() -> ExitCode {
     let named = std::env::args().nth(1);
-    let parts: [(&str, fn()); 4] =
-        [("plans", plans), ("energies", energies), ("calls", calls), ("logs", logs)];
-    for (name, part) in parts {
-        if named.as_deref().is_none_or(|n| n == name) {
-            part();
-        }
+    let chosen = |name: &str| named.as_deref().is_none_or(|n| n == name);
+    if !PARTS.iter().any(|part| chosen(part.0)) {
+        eprintln!("usage: bench [plans|energies|calls|logs]");
+        return ExitCode::from(2);
     }
+    println!("library: {}", library::NAME);
+    PARTS.iter().filter(|part| chosen(part.0)).for_each(|part| part.1());
+    ExitCode::SUCCESS
 }
 
 #[cfg(test)]
@@ -332,17 +336,22 @@ mod tests {
         }
     }
 
-    /// From a state that 21 accepts, the follower has the reference's answer.
+    /// From a state that 21 accepts, fresh or not, the follower has the
+    /// reference's answer.
     #[test]
     fn follower_agrees_with_the_reference() {
         let mut random = Random::new(7);
-        for _ in 0..2000 {
+        let mut compared = 0;
+        while compared < 2000 {
             let job = jobs::any(&mut random, 24).job;
             let marks = marks::allowed(&mut random, &job);
-            let Ok(run) = run::start(&cases::sheet(&job), &marks) else { continue };
-            let logs = [runs::log(&mut random, &run), runs::damaged_log(&mut random, &run)];
-            for log in logs {
-                assert_eq!(follower::follow(&run, &log), log::follow(&run, &log), "{log:?}");
+            let Ok(mut run) = run::start(&cases::sheet(&job), &marks) else { continue };
+            for log in [runs::log, runs::damaged_log, runs::log].map(|draw| draw(&mut random, &run))
+            {
+                let answer = log::follow(&run, &log);
+                assert_eq!(follower::follow(&run, &log), answer, "{log:?}");
+                run = answer.unwrap_or(run);
+                compared += 1;
             }
         }
     }

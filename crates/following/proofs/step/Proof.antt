@@ -1,12 +1,14 @@
--- `following::step` meets its contract: 22 to 25 in their order, then the next place and what is carried on. Assumes nothing.
-use mathlib.Core.Path.{refl, sym, _∙_}
+-- `following::step` meets its contract: 22 to 24 in their order, then the event that was matched, and 25 where the run arrives. Assumes nothing.
+use mathlib.Core.Path.{_≡_, refl, sym, _∙_}
+use mathlib.Core.Bool.{false}
 use native.Mathlib.Omega.{arith}
-use Rattle.rules.specs.Rules.{finished}
-use Rattle.rules.proofs.Soundness.{run-sound, position-range}
-use Rattle.following.specs.Run.{nextPlace}
+use borrow.Author.Tests.{not-false}
+use Rattle.rules.specs.Rules.{awaits, finished}
+use Rattle.events.specs.declared.Event.the-variants.{Failed}
+use Rattle.following.specs.Run.{outOfTurn}
 use Rattle.following.specs.Working.Lent.{lentRun}
-use Rattle.following.proofs.Steps.{event-finished, event-out-of-turn, event-over-weight, event-over-total, event-accepted}
-use Rattle.following.proofs.Carries.{carries-on}
+use Rattle.following.proofs.Steps.{event-finished, event-out-of-turn, event-over-weight}
+use Rattle.following.proofs.Carries.{in-range, back-ready, memory-early, disk-early, done-arrives, passed-arrives, failed-arrives, stopped-arrives, arrived-moves}
 use borrow.Author.Needs.{needs}
 use Rattle.following.proofs.step.Statement.{statement}
 use Rattle.following.proofs.step.Tie as tie
@@ -19,11 +21,8 @@ unfolding finished
 returns c =
     let if1 = c .if1 in
     let finished = c .before .finished in
-    let args = c .before .before .before .before .before .args in
-    record {
-      number = event-finished _ (args .event) (sym (finished .ensures) ∙ if1 .taken);
-      carries = λ z. absurd (omega (arith, z));
-    }
+    let args = c .before .before .before .before .before .before .before .args in
+    record { number = event-finished _ (args .event) (sym (finished .ensures) ∙ if1 .taken); carries = λ z. absurd (omega (arith, z)) }
 
 out-of-turn-requires : tie.Need-out-of-turn-requires
 out-of-turn-requires c κs = search needs
@@ -35,7 +34,7 @@ returns-2 c =
     let out-of-turn = c .before .out-of-turn in
     let if1 = c .before .before .if1 in
     let finished = c .before .before .before .finished in
-    let args = c .before .before .before .before .before .before .before .args in
+    let args = c .before .before .before .before .before .before .before .before .before .args in
     record {
       number = event-out-of-turn _ (args .event) (sym (finished .ensures) ∙ if1 .left) (sym (out-of-turn .ensures) ∙ if2 .taken);
       carries = λ z. absurd (omega (arith, z));
@@ -53,7 +52,8 @@ returns-3 c =
     let out-of-turn = c .before .before .before .out-of-turn in
     let if1 = c .before .before .before .before .if1 in
     let finished = c .before .before .before .before .before .finished in
-    let args = c .before .before .before .before .before .before .before .before .before .args in
+    let start = c .before .before .before .before .before .before .before .before .before .before .before in
+    let args = start .args in
     let run = lentRun (args .tasks) (args .platform) (args .weights .now) (args .marks .now) (args .carried) in
     record {
       number =
@@ -62,71 +62,169 @@ returns-3 c =
       carries = λ z. absurd (omega (arith, z));
     }
 
-next-place-requires : tie.Need-next-place-requires
-next-place-requires c κs =
-    let if2 = c .before .before .if2 in
-    let out-of-turn = c .before .before .before .out-of-turn in
-    let pre = c .before .before .before .before .before .before .before .before .before .pre in
-    let sound = run-sound _ (pre .unbroken) in
-    record {
-      range = record { position = position-range sound; sums = sound .sums };
-      kept = sound .kept;
-      memory-copy = pre .carries .memory-copy;
-      disk-copy = pre .carries .disk-copy;
-      turn = sym (out-of-turn .ensures) ∙ if2 .left;
-    }
+enum-told : tie.Need-enum-told
+enum-told c = search needs
 
-over-total-requires : tie.Need-over-total-requires
-over-total-requires c κs = search needs
+after-done-requires : tie.Need-after-done-requires
+after-done-requires c κs =
+    let start = c .before .before .before .before .before .before .before .before .before .before .before .before .before in
+    let args = start .args in
+    in-range (lentRun (args .tasks) (args .platform) (args .weights .now) (args .marks .now) (args .carried)) (args .carried) (start .pre)
 
-returns-4 : tie.Need-returns-4
-unfolding finished nextPlace
-returns-4 c =
-    let if4 = c .if4 in
-    let over-total = c .before .over-total in
-    let next-place = c .before .before .next-place in
-    let if3 = c .before .before .before .if3 in
-    let over-weight = c .before .before .before .before .over-weight in
+carrying-requires : tie.Need-carrying-requires
+carrying-requires c κs = search needs
+
+arrived-requires : tie.Need-arrived-requires
+arrived-requires c κs = search needs
+
+enum-told-2 : tie.Need-enum-told-2
+enum-told-2 c = search needs
+
+mark-at-requires : tie.Need-mark-at-requires
+mark-at-requires c κs = search needs
+
+after-passed-requires : tie.Need-after-passed-requires
+after-passed-requires c κs =
+    let start = c .before .before .before .before .before .before .before .before .before .before .before .before .before .before in
+    let args = start .args in
+    in-range (lentRun (args .tasks) (args .platform) (args .weights .now) (args .marks .now) (args .carried)) (args .carried) (start .pre)
+
+over-mark-requires : tie.Need-over-mark-requires
+over-mark-requires c κs = search needs
+
+arrived-requires-2 : tie.Need-arrived-requires-2
+arrived-requires-2 c κs = search needs
+
+enum-told-3 : tie.Need-enum-told-3
+enum-told-3 c = search needs
+
+after-failed-requires : tie.Need-after-failed-requires
+unfolding outOfTurn
+after-failed-requires c κs =
+    let event = c .enum-told3 .given .1 in
+    let if2 = c .before .before .before .before .if2 in
+    let out-of-turn = c .before .before .before .before .before .out-of-turn in
+    let start = c .before .before .before .before .before .before .before .before .before .before .before .before .before in
+    let args = start .args in
+    let run = lentRun (args .tasks) (args .platform) (args .weights .now) (args .marks .now) (args .carried) in
+    let turn : outOfTurn (awaits (run .place)) Failed ≡ false = rw event at (sym (out-of-turn .ensures) ∙ if2 .left) in
+    back-ready run (args .carried) (start .pre) _ (start .pre .carries .memory-copy .kept) (memory-early run (args .carried) (start .pre) (not-false (awaits (run .place)) turn))
+
+carrying-requires-2 : tie.Need-carrying-requires-2
+carrying-requires-2 c κs = search needs
+
+arrived-requires-3 : tie.Need-arrived-requires-3
+arrived-requires-3 c κs = search needs
+
+enum-known-event : tie.Need-enum-known-event
+enum-known-event c = search needs
+
+after-stopped-requires : tie.Need-after-stopped-requires
+unfolding outOfTurn
+after-stopped-requires c κs =
+    let event = c .before .event .given .1 in
     let if2 = c .before .before .before .before .before .if2 in
     let out-of-turn = c .before .before .before .before .before .before .out-of-turn in
-    let if1 = c .before .before .before .before .before .before .before .if1 in
-    let finished = c .before .before .before .before .before .before .before .before .finished in
-    let args = c .before .before .before .before .before .before .before .before .before .before .before .before .args in
+    let start = c .before .before .before .before .before .before .before .before .before .before .before .before .before .before in
+    let args = start .args in
     let run = lentRun (args .tasks) (args .platform) (args .weights .now) (args .marks .now) (args .carried) in
-    record {
-      number =
-          event-over-total run (args .event) (sym (finished .ensures) ∙ if1 .left) (sym (out-of-turn .ensures) ∙ if2 .left)
-          (sym (over-weight .ensures run refl refl) ∙ if3 .left) (rw (← (next-place .ensures (run .job) refl refl)) (sym (over-total .ensures) ∙ if4 .taken));
-      carries = λ z. absurd (omega (arith, z));
-    }
+    let turn = rw event at (sym (out-of-turn .ensures) ∙ if2 .left) in
+    back-ready run (args .carried) (start .pre) _ (start .pre .carries .disk-copy .kept) (disk-early run (args .carried) (start .pre) turn)
 
-carried-on-requires : tie.Need-carried-on-requires
-carried-on-requires c κs = search needs
+carrying-requires-3 : tie.Need-carrying-requires-3
+carrying-requires-3 c κs = search needs
+
+arrived-requires-4 : tie.Need-arrived-requires-4
+arrived-requires-4 c κs = search needs
+
+returns-4 : tie.Need-returns-4
+unfolding finished
+returns-4 c =
+    let arrived = c .arrived in
+    let carrying = c .before .carrying in
+    let after-done = c .before .before .after-done in
+    let event = c .before .before .before .enum-told .given .1 in
+    let if3 = c .before .before .before .before .before .if3 in
+    let over-weight = c .before .before .before .before .before .before .over-weight in
+    let if2 = c .before .before .before .before .before .before .before .if2 in
+    let out-of-turn = c .before .before .before .before .before .before .before .before .out-of-turn in
+    let if1 = c .before .before .before .before .before .before .before .before .before .if1 in
+    let finished = c .before .before .before .before .before .before .before .before .before .before .finished in
+    let start = c .before .before .before .before .before .before .before .before .before .before .before .before .before .before .before .before in
+    let args = start .args in
+    let run = lentRun (args .tasks) (args .platform) (args .weights .now) (args .marks .now) (args .carried) in
+    let turn = rw event at (sym (out-of-turn .ensures) ∙ if2 .left) in
+    let light = rw event at (sym (over-weight .ensures run refl refl) ∙ if3 .left) in
+    rw (arrived .ensures, carrying .ensures, event)
+    (arrived-moves run _ (args .carried) _ (sym (finished .ensures) ∙ if1 .left) turn light
+    (done-arrives run (args .carried) (start .pre) (after-done .result) turn (after-done .ensures)))
 
 returns-5 : tie.Need-returns-5
-unfolding finished nextPlace
+unfolding finished
 returns-5 c =
-    let carried-on = c .carried-on in
-    let if4 = c .before .if4 in
-    let over-total = c .before .before .over-total in
-    let next-place = c .before .before .before .next-place in
-    let if3 = c .before .before .before .before .if3 in
-    let over-weight = c .before .before .before .before .before .over-weight in
-    let if2 = c .before .before .before .before .before .before .if2 in
-    let out-of-turn = c .before .before .before .before .before .before .before .out-of-turn in
-    let if1 = c .before .before .before .before .before .before .before .before .if1 in
-    let finished = c .before .before .before .before .before .before .before .before .before .finished in
-    let args = c .before .before .before .before .before .before .before .before .before .before .before .before .before .args in
-    let pre = c .before .before .before .before .before .before .before .before .before .before .before .before .before .pre in
+    let arrived2 = c .arrived2 in
+    let over-mark = c .before .over-mark in
+    let after-passed = c .before .before .after-passed in
+    let mark-at = c .before .before .before .mark-at in
+    let event = c .before .before .before .before .enum-told2 .given .1 in
+    let if3 = c .before .before .before .before .before .before .if3 in
+    let over-weight = c .before .before .before .before .before .before .before .over-weight in
+    let if2 = c .before .before .before .before .before .before .before .before .if2 in
+    let out-of-turn = c .before .before .before .before .before .before .before .before .before .out-of-turn in
+    let if1 = c .before .before .before .before .before .before .before .before .before .before .if1 in
+    let finished = c .before .before .before .before .before .before .before .before .before .before .before .finished in
+    let start = c .before .before .before .before .before .before .before .before .before .before .before .before .before .before .before .before .before in
+    let args = start .args in
     let run = lentRun (args .tasks) (args .platform) (args .weights .now) (args .marks .now) (args .carried) in
-    let turn = sym (out-of-turn .ensures) ∙ if2 .left in
-    let next = next-place .ensures (run .job) refl refl in
-    record {
-      number =
-          event-accepted run (args .event) (sym (finished .ensures) ∙ if1 .left) turn
-          (sym (over-weight .ensures run refl refl) ∙ if3 .left) (rw (← next) (sym (over-total .ensures) ∙ if4 .left));
-      carries = λ z. rw (carried-on .ensures, next) (carries-on run (args .carried) pre (args .event) turn);
-    }
+    let turn = rw event at (sym (out-of-turn .ensures) ∙ if2 .left) in
+    let light = rw event at (sym (over-weight .ensures run refl refl) ∙ if3 .left) in
+    rw (arrived2 .ensures, over-mark .ensures, mark-at .ensures, event)
+    (arrived-moves run _ (args .carried) _ (sym (finished .ensures) ∙ if1 .left) turn light
+    (passed-arrives run (args .carried) (start .pre) (after-passed .result) turn (after-passed .ensures)))
+
+returns-6 : tie.Need-returns-6
+unfolding finished
+returns-6 c =
+    let arrived3 = c .arrived3 in
+    let carrying2 = c .before .carrying2 in
+    let after-failed = c .before .before .after-failed in
+    let event = c .before .before .before .enum-told3 .given .1 in
+    let if3 = c .before .before .before .before .before .if3 in
+    let over-weight = c .before .before .before .before .before .before .over-weight in
+    let if2 = c .before .before .before .before .before .before .before .if2 in
+    let out-of-turn = c .before .before .before .before .before .before .before .before .out-of-turn in
+    let if1 = c .before .before .before .before .before .before .before .before .before .if1 in
+    let finished = c .before .before .before .before .before .before .before .before .before .before .finished in
+    let start = c .before .before .before .before .before .before .before .before .before .before .before .before .before .before .before .before in
+    let args = start .args in
+    let run = lentRun (args .tasks) (args .platform) (args .weights .now) (args .marks .now) (args .carried) in
+    let turn = rw event at (sym (out-of-turn .ensures) ∙ if2 .left) in
+    let light = rw event at (sym (over-weight .ensures run refl refl) ∙ if3 .left) in
+    rw (arrived3 .ensures, carrying2 .ensures, event)
+    (arrived-moves run _ (args .carried) _ (sym (finished .ensures) ∙ if1 .left) turn light
+    (failed-arrives run (args .carried) (start .pre) (after-failed .result) turn (after-failed .ensures)))
+
+returns-7 : tie.Need-returns-7
+unfolding finished
+returns-7 c =
+    let arrived4 = c .arrived4 in
+    let carrying3 = c .before .carrying3 in
+    let after-stopped = c .before .before .after-stopped in
+    let event = c .before .before .before .before .event .given .1 in
+    let if3 = c .before .before .before .before .before .before .if3 in
+    let over-weight = c .before .before .before .before .before .before .before .over-weight in
+    let if2 = c .before .before .before .before .before .before .before .before .if2 in
+    let out-of-turn = c .before .before .before .before .before .before .before .before .before .out-of-turn in
+    let if1 = c .before .before .before .before .before .before .before .before .before .before .if1 in
+    let finished = c .before .before .before .before .before .before .before .before .before .before .before .finished in
+    let start = c .before .before .before .before .before .before .before .before .before .before .before .before .before .before .before .before .before in
+    let args = start .args in
+    let run = lentRun (args .tasks) (args .platform) (args .weights .now) (args .marks .now) (args .carried) in
+    let turn = rw event at (sym (out-of-turn .ensures) ∙ if2 .left) in
+    let light = rw event at (sym (over-weight .ensures run refl refl) ∙ if3 .left) in
+    rw (arrived4 .ensures, carrying3 .ensures, event)
+    (arrived-moves run _ (args .carried) _ (sym (finished .ensures) ∙ if1 .left) turn light
+    (stopped-arrives run (args .carried) (start .pre) _ (after-stopped .result) turn (after-stopped .ensures)))
 
 pub step-spec : {M : Type 1} → statement M
 step-spec =
@@ -138,8 +236,24 @@ step-spec =
     returns-2
     over-weight-requires
     returns-3
-    next-place-requires
-    over-total-requires
+    enum-told
+    after-done-requires
+    carrying-requires
+    arrived-requires
+    enum-told-2
+    mark-at-requires
+    after-passed-requires
+    over-mark-requires
+    arrived-requires-2
+    enum-told-3
+    after-failed-requires
+    carrying-requires-2
+    arrived-requires-3
+    enum-known-event
+    after-stopped-requires
+    carrying-requires-3
+    arrived-requires-4
     returns-4
-    carried-on-requires
-    returns-5)
+    returns-5
+    returns-6
+    returns-7)

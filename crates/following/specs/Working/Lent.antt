@@ -4,28 +4,20 @@ use mathlib.Core.Path.{_≡_}
 use mathlib.Core.Bool.{Bool, false, cond}
 use mathlib.Core.List.{List}
 use lib.Dec.{eqb}
+use Rattle.refusals.specs.Numbers
 use Rattle.refusals.specs.Refusals.{first}
 use Rattle.chain.specs.Time.{memory, disk}
-use Rattle.job.specs.Job.{total}
 use Rattle.job.specs.declared.Platform.{Platform}
-use Rattle.job.specs.declared.Job.{Job}
-use Rattle.marks.specs.Marks.{marksOf}
 use Rattle.state.specs.declared.Place.{Place}
 use Rattle.state.specs.declared.Run.{Run}
-use Rattle.rules.specs.Rules.{awaits, broken, passedBefore}
-use Rattle.carried.specs.Working.Carried.{SavedBefore, Carries, overMark}
+use Rattle.rules.specs.Rules.{overTotal, broken}
+use Rattle.carried.specs.Working.Carried.{Carries}
 use Rattle.carried.specs.declared.Saved.{Saved}
 use Rattle.carried.specs.declared.Carried.{Carried}
-use Rattle.events.specs.Events.{placeAfter}
-use Rattle.events.specs.Working.Ready.{InRange}
 use Rattle.events.specs.declared.Event.{Event}
-use Rattle.events.specs.declared.Event.the-variants.{Done, Passed, Failed, Stopped}
-use Rattle.following.specs.Run.{outOfTurn, overWeight, eventConditions, nextPlace, standing, accepted, refused}
+use Rattle.following.specs.Run.{overWeight, eventConditions, nextPlace, standing, accepted, refused}
 use Rattle.following.specs.declared.Stepped.{Stepped}
 use Rattle.following.specs.declared.Moved.{Moved}
-
-abbrev pub answered : ℕ → Run → Stepped
-answered number run = record { number = number; run = run }
 
 -- the state that is lent in parts
 abbrev pub lentRun : (tasks : ℕ) → Platform → (weights marks : List ℕ) → Carried → Run
@@ -36,28 +28,15 @@ lentRun tasks platform weights marks carried =
 abbrev pub OverWeight : (weights : List ℕ) → (position : ℕ) → Event → Bool → Type 0
 OverWeight weights position event r = (run : Run) → run .job .weights ≡ weights → run .place .position ≡ position → r ≡ overWeight run event
 
--- what 21 leaves of a place, its copies, and an event in its turn
-pub record ReadyToMove (weights marks : List ℕ) (c : Carried) (event : Event) : Type 0 where
-  pub range : InRange (c .place)
-  pub kept : c .place .sums .kept ≡ total weights (c .place .position)
-  pub memory-copy : SavedBefore weights (marksOf marks) memory (passedBefore (c .place)) (c .memory)
-  pub disk-copy : SavedBefore weights (marksOf marks) disk (passedBefore (c .place)) (c .disk)
-  pub turn : outOfTurn (awaits (c .place)) event ≡ false
-
--- the place after an event, in every job with these costs and weights
-abbrev pub NextIs : Platform → (weights marks : List ℕ) → Place → Event → Place → Type 0
-NextIs platform weights marks place event next =
-    (job : Job) → job .platform ≡ platform → job .weights ≡ weights → next ≡ placeAfter job (marksOf marks) place event
-
 abbrev pub carrying : Place → (memory disk : Saved) → Carried
 carrying place memory disk = record { place = place; memory = memory; disk = disk }
 
--- what is carried on from an event that led to this place
-unfoldable pub carriedOn : (marks : List ℕ) → Carried → Place → Event → Carried
-carriedOn marks before place Done = carrying place (before .memory) (before .disk)
-carriedOn marks before place Passed = overMark (marksOf marks (place .position)) before place
-carriedOn marks before place Failed = carrying place (before .memory) (before .disk)
-carriedOn marks before place (Stopped lost) = carrying place (before .disk) (before .disk)
+-- the answer to an event: what is carried where the run arrives, unless the new total would pass the limit
+abbrev pub moved : ℕ → Carried → Moved
+moved number carried = record { number = number; carried = carried }
+
+abbrev pub arrived : (before next : Carried) → Moved
+arrived before next = cond (overTotal (next .place .sums)) (moved Numbers.overTotal before) (moved Numbers.accepted next)
 
 -- a state that 21 accepts, and what is carried of it
 pub record ReadyForEvent (run : Run) (c : Carried) : Type 0 where

@@ -8,8 +8,8 @@ use lib.ListN.{length}
 use Rattle.refusals.specs.Numbers
 use Rattle.refusals.specs.Refusals.{refusal, first}
 use Rattle.rules.specs.Rules.{broken}
-use Rattle.following.specs.Run.{standing, accepted, refused}
-use Rattle.following.specs.Working.Lent.{answered, stepOn}
+use Rattle.following.specs.Run.{standing, answered, accepted, refused}
+use Rattle.following.specs.Working.Lent.{stepOn}
 use Rattle.state.specs.declared.Run.{Run}
 use Rattle.carried.specs.declared.Carried.{Carried}
 use Rattle.following.specs.declared.Stepped.{Stepped}
