@@ -2,15 +2,14 @@
 -- within bounds.
 -- Assumes nothing.
 use native.Mathlib.Nat.{le-trans}
-use Prim.Native.Nat.{ℕ, _+_, _-_, _*_, _≤_, _<_}
-use mathlib.Core.Path.{_≡_, _∙_, refl}
+use Prim.Native.Nat.{ℕ, zero, suc, _+_, _-_, _*_, _≤_, _<_}
+use mathlib.Core.Path.{_≡_, _∙_, refl, ap}
 use mathlib.Core.Logic.{inl, inr, _≢_}
 use mathlib.Core.List.{List}
 use native.Mathlib.Decide.{ℕ-discrete}
 use native.Mathlib.Omega.{arith}
 use borrow.Author.Tests.{eqb-false, not-true}
-use lib.ListN.{length, getD, set, length-set}
-use lib.Seq.{getD-set-same, getD-set-other}
+use lib.ListN.{length, set, length-set}
 use Rattle.growth.proofs.Laws.{G-cap}
 use Rattle.chain.specs.Working.Factors.{Factored}
 use Rattle.chain.specs.Working.Same.{SameAllowed}
@@ -20,7 +19,7 @@ use Rattle.units.specs.Limits.{positions}
 use Rattle.job.specs.Working.Sound.{Sound}
 use Rattle.job.specs.declared.Job.{Job}
 use Rattle.job.specs.declared.Platform.{Platform}
-use Rattle.job.proofs.Weights.{total-more, total-mono}
+use Rattle.job.proofs.Weights.{total-more}
 use Rattle.costs.specs.Costs.{vAt, cmAt, cdAt, rdAt, rmAt}
 use Rattle.costs.specs.Energy.{energyChain, ProductsFit}
 use Rattle.costs.specs.Working.Factors.{energyFactorsOf, energyFactorsAt, ReadyForEnergy, FactorsIfAllowed}
@@ -30,36 +29,36 @@ use Rattle.costs.proofs.Stretches.{energy-factors, energy-ready, energy-decides
 use Rattle.table.specs.Working.Table.{needed, cmStart, cdStart, rdStart, rmStart, entryOf, column, chainIn, putPair, PairFits, Packable, Bounded, Firsts, FirstsPut}
 use Rattle.table.proofs.Pairs.{needed-less}
 use Rattle.table.proofs.Table.{length-putPair, putPair-here, putPair-apart, column-here, column-apart, column-entry, firsts-entry, firsts-column}
-use Rattle.filling.specs.Working.Fill.{Totals, EarlierPair, PairsTo, TableTo, TableOf}
+use Rattle.filling.specs.Weight.{weightAfter}
+use Rattle.filling.specs.Working.Fill.{EarlierPair, PairsTo, TableTo, TableOf}
 
--- one total more
-pub totals-more : (w : List ℕ) (j : ℕ) (sums : List ℕ) → Totals w j sums → j + 1 < positions → Totals w (j + 1) (set sums (j + 1) (getD sums j 0 + weightAt w j))
-totals-more w j sums h l =
-    record {
-      long = length-set sums (j + 1) _ ∙ h .long;
-      sums-at = λ v k. at v k (ℕ-discrete v (j + 1));
-    }
-  where
-    next : ℕ
-    next = getD sums j 0 + weightAt w j
+-- the running weight of a stretch, one addition a step, is the weight of the stretch
+pub weight-after : (w : List ℕ) (u k : ℕ) → total w u + weightAfter w u k ≡ total w (u + k)
+unfolding weightAfter
+weight-after w u zero = let e : u + zero ≡ u = omega arith in rw e (omega arith)
+weight-after w u (suc k) =
+    let e : u + suc k ≡ u + k + 1 = omega arith in
+    rw (e, total-more w (u + k)) (omega (arith, weight-after w u k))
 
-    at : (v : ℕ) → v ≤ j + 1 → Dec (v ≡ j + 1) → getD (set sums (j + 1) next) v 0 ≡ total w v
-    at v k (yes e) = rw (e, getD-set-same sums (j + 1) next 0 (omega (arith, h .long)), h .sums-at j (omega arith), total-more w j)
-    at v k (no e) = getD-set-other sums (j + 1) v next 0 e ∙ h .sums-at v (omega arith)
-
--- the weight of a stretch is the difference of two totals, which does not fall below 0 and is in range
-pub record Weighed (powers : Powers) (job : Job) (u v low high : ℕ) : Type 0 where
-  pub order : low ≤ high
-  pub weight : high - low ≡ between (job .weights) u v
+-- at the pair (u, v): the weight is that of tasks u + 1 to v, by which the factors of the pair are those of the chain
+pub record Weighed (powers : Powers) (job : Job) (u v weight : ℕ) : Type 0 where
+  pub sum : weight ≡ weightAfter (job .weights) u (v - u)
+  pub between-ends : weight ≡ between (job .weights) u v
   pub ready : ReadyForEnergy powers (between (job .weights) u v) (vAt job v)
 
-pub totals-between : (powers : Powers) (job : Job) → Sound job → ProductsFit powers job → (sums : List ℕ) → Totals (job .weights) (job .tasks) sums
-    → (u v : ℕ) → u < v → v ≤ job .tasks → Weighed powers job u v (getD sums u 0) (getD sums v 0)
-unfolding between
-totals-between powers job sound products sums h u v a b =
+-- one task more
+pub weighed-more : (powers : Powers) (job : Job) → Sound job → ProductsFit powers job → (u v weight : ℕ) → u < v → v ≤ job .tasks
+    → weight ≡ weightAfter (job .weights) u (v - 1 - u) → Weighed powers job u v (weight + weightAt (job .weights) (v - 1))
+unfolding between weightAfter
+weighed-more powers job sound products u v weight a b running =
+    let w = job .weights in
+    let steps : v - u ≡ suc (v - 1 - u) = omega arith in
+    let task : v - 1 ≡ u + (v - 1 - u) = omega arith in
+    let end : u + (v - u) ≡ v = omega arith in
+    let sum : weight + weightAt w (v - 1) ≡ weightAfter w u (v - u) = rw (steps, running) (ap (λ (i : ℕ). weightAfter w u (v - 1 - u) + weightAt w i) task) in
     record {
-      order = rw (h .sums-at u (omega arith), h .sums-at v b) (total-mono (job .weights) u v (omega arith));
-      weight = rw (h .sums-at u (omega arith), h .sums-at v b);
+      sum = sum;
+      between-ends = sum ∙ omega (arith, rw end at (weight-after w u (v - u)));
       ready = energy-ready powers job sound products u v b;
     }
 

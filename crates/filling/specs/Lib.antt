@@ -1,2 +1,3 @@
--- This crate promises nothing of its own: what a plan is stands in `chain`, and what planning gives in `planning`.
+-- The weight of a stretch as a sum (request 108). What a plan is stands in `chain`, and what planning gives in `planning`.
+pub mod Weight
 pub mod Working

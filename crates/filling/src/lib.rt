@@ -1,8 +1,7 @@
 // Fills the search's table with the chain of a job in energy, which by the powers 1 and 1 is its time: the factors of each stretch that is allowed, a near end
 // and a far end, then the costs of each position.
 ghost use Prim.Native.Nat.{_+_};
-ghost use Rattle.job.specs.Working.Sound.{Sound};
-ghost use Rattle.filling.specs.Working.Fill.{Totals, PairsTo, TableTo, TableOf, ReadyForPairs, ReadyForCosts, ReadyToFill};
+ghost use Rattle.filling.specs.Working.Fill.{PairsTo, TableTo, TableOf, ReadyForCosts, ReadyToFill};
 use charges::cd_at;
 use charges::cm_at;
 use charges::rd_at;
@@ -18,37 +17,28 @@ use table::RM_START;
 use table::put_firsts;
 use table::put_in_column;
 use table::put_pair;
-use units::POSITIONS;
 
-// The weight up to each position.
-fn totals(job: Job) -> [u64; POSITIONS]
-    requires { ⌜ Sound job ⌝ }
-    ensures { λ r. ⌜ Totals (job .weights) (job .tasks) r ⌝ }
-{
-    let n = job.tasks;
-    let weights = job.weights;
-    let mut sums = [0u64; POSITIONS];
-    let mut j: usize = 0;
-    while j < n {
-        sums[j + 1] = sums[j] + (weights[j] as u64);
-        j += 1;
-    }
-    sums
-}
-
-// The stretches from the near end u to each far end.
-fn fill_pairs(t: &mut [u32], powers: Powers, job: Job, sums: &[u64], u: usize)
-    requires { ⌜ ReadyForPairs powers job (now sums) u (now t) ⌝ }
-    ensures { λ _. ⌜ PairsTo powers job (u + 1) (u + 2) (now (t .exit)) ⌝ }
+// The factors of each stretch that is allowed. The weight runs with the far end: 0 at each near end, and one task more at each step.
+fn fill_pairs(t: &mut [u32], powers: Powers, job: Job)
+    requires { ⌜ ReadyToFill powers job (now t) ⌝ }
+    ensures { λ _. ⌜ PairsTo powers job (job .tasks) (job .tasks + 1) (now (t .exit)) ⌝ }
 {
     let job = job;
     let n = job.tasks;
     let platform = job.platform;
-    let mut v = u + 1;
-    while v <= n {
-        let f = factors_if_allowed(powers, platform, sums[v] - sums[u], v_at(job, v));
-        put_pair(t, u, v, f);
-        v += 1;
+    let weights = job.weights;
+    let mut weight: u64 = 0;
+    let mut u: usize = 0;
+    while u < n {
+        weight = 0;
+        let mut v = u + 1;
+        while v <= n {
+            weight += weights[v - 1] as u64;
+            let f = factors_if_allowed(powers, platform, weight, v_at(job, v));
+            put_pair(t, u, v, f);
+            v += 1;
+        }
+        u += 1;
     }
 }
 
@@ -81,12 +71,7 @@ pub fn fill(t: &mut [u32], powers: Powers, job: Job)
 {
     let job = job;
     let n = job.tasks;
-    let sums = totals(job);
-    let mut u: usize = 0;
-    while u < n {
-        fill_pairs(t, powers, job, &sums, u);
-        u += 1;
-    }
+    fill_pairs(t, powers, job);
     fill_costs(t, powers, job);
     put_firsts(t, n);
 }

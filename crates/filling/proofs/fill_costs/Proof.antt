@@ -1,7 +1,6 @@
 -- `filling::fill_costs` meets its contract. The loop's invariant: the positions before v have their costs. The measure is what is left of the positions. Assumes nothing.
 use Rattle.filling.specs.Working.Fill.{TableTo}
 use Rattle.filling.proofs.Fills.{table-first, table-more}
-use borrow.Author.Needs.{needs}
 use mathlib.Core.List.{List}
 use mathlib.Core.Path.{refl, _≡_, _∙_}
 use Prim.Native.Nat.{ℕ, _+_, _-_, _≤_}

@@ -1,150 +1,196 @@
--- `filling::fill_pairs` meets its contract. The loop's invariant: the stretches before (u, v) have their factors, if allowed. The measure is
--- what is left of the positions. Assumes nothing.
-use native.Mathlib.Nat.{le-trans}
+-- `filling::fill_pairs` meets its contract. The invariant over near ends: the stretches before (u, u + 1) have their factors, if allowed. Over far ends: those before (u, v)
+-- have them, and the running weight is that of tasks u + 1 to v - 1. The measures are what is left of the positions. Assumes nothing.
+use Prim.Native.Nat.{ℕ, _+_, _-_, _≤_, _<_}
+use mathlib.Core.Path.{_≡_, _∙_, refl}
 use mathlib.Core.List.{List}
+use native.Mathlib.Nat.{le-trans}
+use native.Mathlib.Omega.{arith}
 use lib.ListN.{length}
 use Rattle.job.specs.declared.Job.{Job}
 use Rattle.costs.specs.declared.Powers.{Powers}
-use Prim.Native.Nat.{_+_, _-_, _≤_, _<_, ℕ}
-use mathlib.Core.Path.{_∙_, refl, _≡_}
-use native.Mathlib.Omega.{arith}
-use Rattle.filling.specs.Working.Fill.{PairsTo}
-use Rattle.filling.proofs.Fills.{totals-between, factors-packable, pairs-more, pairs-next}
 use Rattle.table.proofs.Pairs.{needed-less}
+use Rattle.filling.specs.Weight.{weightAfter}
+use Rattle.filling.specs.Working.Fill.{PairsTo}
+use Rattle.filling.proofs.Fills.{weighed-more, factors-packable, pairs-none, pairs-more, pairs-next}
 use Rattle.filling.proofs.fill_pairs.Statement.{statement}
 use Rattle.filling.proofs.fill_pairs.Tie as tie
 use borrow.Author.Needs.{needs}
 
-record Pairs-to (t₀ : List ℕ) (powers : Powers) (job : Job) (u : ℕ) (t : List ℕ) (v : ℕ) : Type 0 where
+record Pairs-to (t₀ : List ℕ) (powers : Powers) (job : Job) (u : ℕ) (t : List ℕ) (weight v : ℕ) : Type 0 where
   pub order : u < v
   pub within : v ≤ job .tasks + 1
+  pub running : weight ≡ weightAfter (job .weights) u (v - 1 - u)
   pub pairs : PairsTo powers job u v t
   pub same-long : length t ≡ length t₀
 
+record Near-to (t₀ : List ℕ) (powers : Powers) (job : Job) (t : List ℕ) (u : ℕ) : Type 0 where
+  pub within : u ≤ job .tasks
+  pub pairs : PairsTo powers job u (u + 1) t
+  pub same-long : length t ≡ length t₀
+
+abbrev Inv-loop2 : tie.InvT-loop2
+Inv-loop2 t₀ powers job n platform weights weight₀ u v₀ t weight v = Pairs-to t₀ powers job u t weight v
+
+abbrev μ-loop2 : tie.MeasureT-loop2
+μ-loop2 t₀ powers job n platform weights weight₀ u v₀ t weight v = (job .tasks + 1) - v
+
 abbrev Inv-loop : tie.InvT-loop
-Inv-loop t₀ powers sums u job n platform v₀ t v = Pairs-to t₀ powers job u t v
+Inv-loop t₀ powers job n platform weights weight₀ u₀ t weight u = Near-to t₀ powers job t u
 
 abbrev μ-loop : tie.MeasureT-loop
-μ-loop t₀ powers sums u job n platform v₀ t v = (job .tasks + 1) - v
+μ-loop t₀ powers job n platform weights weight₀ u₀ t weight u = job .tasks - u
 
-add-v : tie.Need-add-v Inv-loop μ-loop
-add-v c =
-    let pre = c .before .before .before .pre in
-    omega (arith, pre .near, pre .sound .few-tasks)
-
-loop-holds : tie.Need-loop-holds Inv-loop μ-loop
+loop-holds : tie.Need-loop-holds Inv-loop2 μ-loop2 Inv-loop μ-loop
 loop-holds c =
     let pre = c .before .before .before .pre in
-    record { order = omega arith; within = omega (arith, pre .near); pairs = pre .filled; same-long = refl }
+    record { within = omega arith; pairs = pairs-none _ _ _ (pre .long); same-long = refl }
 
-mul-factors-if-allowed : tie.Need-mul-factors-if-allowed Inv-loop μ-loop
-mul-factors-if-allowed c =
+add-v : tie.Need-add-v Inv-loop2 μ-loop2 Inv-loop μ-loop
+add-v c =
     let pre = c .before .before .before .before .before .pre in
     omega (arith, pre .sound .few-tasks)
 
-shared-slice-read-factors-if-allowed : tie.Need-shared-slice-read-factors-if-allowed Inv-loop μ-loop
-shared-slice-read-factors-if-allowed c =
-    let pre = c .before .before .before .before .before .before .pre in
-    omega (arith, pre .totals .long, pre .sound .few-tasks)
+loop2-holds : tie.Need-loop2-holds Inv-loop2 μ-loop2 Inv-loop μ-loop
+unfolding weightAfter
+loop2-holds c =
+    let loop = c .before .loop in
+    let none : loop .u + 1 - 1 - loop .u ≡ 0 = omega arith in
+    record { order = omega arith; within = omega arith; running = rw none; pairs = loop .inv .pairs; same-long = refl }
 
-mul-factors-if-allowed-2 : tie.Need-mul-factors-if-allowed-2 Inv-loop μ-loop
-mul-factors-if-allowed-2 c =
-    let pre = c .before .before .before .before .before .before .pre in
-    omega (arith, pre .near, pre .sound .few-tasks)
+sub-weight : tie.Need-sub-weight Inv-loop2 μ-loop2 Inv-loop μ-loop
+sub-weight c = omega (arith, c .before .loop2 .inv .order)
 
-shared-slice-read-factors-if-allowed-2 : tie.Need-shared-slice-read-factors-if-allowed-2 Inv-loop μ-loop
-shared-slice-read-factors-if-allowed-2 c =
+mul-weight : tie.Need-mul-weight Inv-loop2 μ-loop2 Inv-loop μ-loop
+mul-weight c =
     let pre = c .before .before .before .before .before .before .before .pre in
-    omega (arith, pre .totals .long, pre .near, pre .sound .few-tasks)
+    omega (arith, pre .sound .few-tasks)
 
-sub-factors-if-allowed : tie.Need-sub-factors-if-allowed Inv-loop μ-loop
-sub-factors-if-allowed c =
-    let args = c .before .before .before .before .before .before .before .args in
+array-read-weight : tie.Need-array-read-weight Inv-loop2 μ-loop2 Inv-loop μ-loop
+array-read-weight c =
     let pre = c .before .before .before .before .before .before .before .pre in
+    omega (arith, pre .sound .few-tasks, c .before .loop2 .inv .order)
+
+cast-weight : tie.Need-cast-weight Inv-loop2 μ-loop2 Inv-loop μ-loop
+cast-weight c = search needs
+
+add-weight : tie.Need-add-weight Inv-loop2 μ-loop2 Inv-loop μ-loop
+add-weight c =
+    let start = c .before .before .before .before .before .before .before in
     let loop = c .before .before .before .loop in
-    totals-between _ (args .job) (pre .sound) (pre .products) _ (pre .totals) (args .u) (loop .v) (loop .inv .order) (omega arith) .order
+    let loop2 = c .before .loop2 in
+    let weighed = weighed-more (start .args .powers) (start .args .job) (start .pre .sound) (start .pre .products) (loop .u) (loop2 .v) (loop2 .weight) (loop2 .inv .order) (omega arith) (loop2 .inv .running) in
+    omega (arith, weighed .between-ends, weighed .ready)
 
-v-at-requires : tie.Need-v-at-requires Inv-loop μ-loop
+v-at-requires : tie.Need-v-at-requires Inv-loop2 μ-loop2 Inv-loop μ-loop
 v-at-requires c κs =
     let pre = c .before .before .before .before .before .before .before .pre in
     omega (arith, pre .sound .few-tasks)
 
-factors-if-allowed-requires : tie.Need-factors-if-allowed-requires Inv-loop μ-loop
+factors-if-allowed-requires :
+    tie.Need-factors-if-allowed-requires Inv-loop2 μ-loop2 Inv-loop μ-loop
 factors-if-allowed-requires c κs =
-    let args = c .before .before .before .before .before .before .before .before .args in
-    let pre = c .before .before .before .before .before .before .before .before .pre in
-    let loop = c .before .before .before .before .loop in
     let v-at = c .v-at in
-    let weighed = totals-between _ (args .job) (pre .sound) (pre .products) _ (pre .totals) (args .u) (loop .v) (loop .inv .order) (omega arith) in
-    rw (weighed .weight, v-at .ensures .value) (weighed .ready)
+    let start = c .before .before .before .before .before .before .before .before in
+    let loop = c .before .before .before .before .loop in
+    let loop2 = c .before .before .loop2 in
+    let weighed = weighed-more (start .args .powers) (start .args .job) (start .pre .sound) (start .pre .products) (loop .u) (loop2 .v) (loop2 .weight) (loop2 .inv .order) (omega arith) (loop2 .inv .running) in
+    rw (weighed .between-ends, v-at .ensures .value) (weighed .ready)
 
-put-pair-requires : tie.Need-put-pair-requires Inv-loop μ-loop
+put-pair-requires : tie.Need-put-pair-requires Inv-loop2 μ-loop2 Inv-loop μ-loop
 put-pair-requires c κs =
-    let loop = c .before .before .before .before .before .before .loop in
-    let pre = c .before .before .before .before .before .before .before .before .before .before .pre in
     let factors-if-allowed = c .before .factors-if-allowed in
+    let loop2 = c .before .before .before .before .loop2 in
+    let pre = c .before .before .before .before .before .before .before .before .before .before .pre in
     record {
       fits = record {
-        long = le-trans (needed-less _ _ (omega arith)) (loop .inv .pairs .long);
-        pair = record { order = loop .inv .order; few = omega (arith, pre .sound .few-tasks) };
+        long = le-trans (needed-less _ _ (omega arith)) (loop2 .inv .pairs .long);
+        pair = record { order = loop2 .inv .order; few = omega (arith, pre .sound .few-tasks) };
       };
       packable = factors-packable _ _ _ _ _ (factors-if-allowed .ensures);
     }
 
-add-v-2 : tie.Need-add-v-2 Inv-loop μ-loop
+add-v-2 : tie.Need-add-v-2 Inv-loop2 μ-loop2 Inv-loop μ-loop
 add-v-2 c =
     let pre = c .before .before .before .before .before .before .before .before .before .before .before .before .before .pre in
     omega (arith, pre .sound .few-tasks)
 
-loop-less : tie.Need-loop-less Inv-loop μ-loop
-loop-less c = omega arith
+loop2-less : tie.Need-loop2-less Inv-loop2 μ-loop2 Inv-loop μ-loop
+loop2-less c = omega arith
 
-loop-again : tie.Need-loop-again Inv-loop μ-loop
-loop-again c =
-    let args = c .before .before .before .before .before .before .before .before .before .before .before .before .before .args in
-    let pre = c .before .before .before .before .before .before .before .before .before .before .before .before .before .pre in
+loop2-again : tie.Need-loop2-again Inv-loop2 μ-loop2 Inv-loop μ-loop
+loop2-again c =
+    let start = c .before .before .before .before .before .before .before .before .before .before .before .before .before in
     let loop = c .before .before .before .before .before .before .before .before .before .loop in
+    let loop2 = c .before .before .before .before .before .before .before .loop2 in
     let v-at = c .before .before .before .before .before .v-at in
     let factors-if-allowed = c .before .before .before .before .factors-if-allowed in
     let put-pair = c .before .before .put-pair in
-    let weighed = totals-between _ (args .job) (pre .sound) (pre .products) _ (pre .totals) (args .u) (loop .v) (loop .inv .order) (omega arith) in
     let t = c .before .t in
-    let factors = rw (weighed .weight, v-at .ensures .value) at (factors-if-allowed .ensures) in
+    let weighed = weighed-more (start .args .powers) (start .args .job) (start .pre .sound) (start .pre .products) (loop .u) (loop2 .v) (loop2 .weight) (loop2 .inv .order) (omega arith) (loop2 .inv .running) in
+    let factors = rw (weighed .between-ends, v-at .ensures .value) at (factors-if-allowed .ensures) in
+    let next : loop2 .v + 1 - 1 ≡ loop2 .v = omega arith in
     record {
-      order = omega (arith, loop .inv .order);
+      order = omega (arith, loop2 .inv .order);
       within = omega arith;
-      pairs = rw (put-pair .ensures) (pairs-more _ _ _ _ _ (loop .inv .pairs) (loop .inv .order) (omega arith) (omega (arith, pre .sound .few-tasks)) _ factors);
-      same-long = t .given ∙ loop .inv .same-long;
+      running = rw next (weighed .sum);
+      pairs = rw (put-pair .ensures) (pairs-more _ _ _ _ _ (loop2 .inv .pairs) (loop2 .inv .order) (omega arith) (omega (arith, start .pre .sound .few-tasks)) _ factors);
+      same-long = t .given ∙ loop2 .inv .same-long;
     }
 
-same-length : tie.Need-same-length Inv-loop μ-loop
+add-u : tie.Need-add-u Inv-loop2 μ-loop2 Inv-loop μ-loop
+add-u c =
+    let pre = c .before .before .before .before .before .before .before .pre in
+    omega (arith, pre .sound .few-tasks)
+
+loop-less : tie.Need-loop-less Inv-loop2 μ-loop2 Inv-loop μ-loop
+loop-less c = omega arith
+
+loop-again : tie.Need-loop-again Inv-loop2 μ-loop2 Inv-loop μ-loop
+loop-again c =
+    let loop2 = c .before .loop2 in
+    let loop = c .before .before .before .loop in
+    let next : loop .u + 1 + 1 ≡ loop .u + 2 = omega arith in
+    record {
+      within = omega arith;
+      pairs = rw next (pairs-next _ _ _ _ _ (loop2 .inv .pairs) (omega arith));
+      same-long = loop2 .inv .same-long ∙ loop .inv .same-long;
+    }
+
+same-length : tie.Need-same-length Inv-loop2 μ-loop2 Inv-loop μ-loop
 same-length c =
     let loop = c .before .loop in
-    let pre = c .before .before .before .before .before .pre in
     loop .inv .same-long
 
-returns : tie.Need-returns Inv-loop μ-loop
+returns : tie.Need-returns Inv-loop2 μ-loop2 Inv-loop μ-loop
 returns c =
     let loop = c .before .loop in
-    pairs-next _ _ _ _ _ (loop .inv .pairs) (omega arith)
+    let args = c .before .before .before .before .before .args in
+    let e : loop .u ≡ args .job .tasks = omega (arith, loop .inv .within) in
+    rw e at (loop .inv .pairs)
 
 pub fill-pairs-spec : {M : Type 1} → statement M
 fill-pairs-spec =
     tie.close
     (tie.spec
+    Inv-loop2
+    μ-loop2
     Inv-loop
     μ-loop
-    add-v
     loop-holds
-    mul-factors-if-allowed
-    shared-slice-read-factors-if-allowed
-    mul-factors-if-allowed-2
-    shared-slice-read-factors-if-allowed-2
-    sub-factors-if-allowed
+    add-v
+    loop2-holds
+    sub-weight
+    mul-weight
+    array-read-weight
+    cast-weight
+    add-weight
     v-at-requires
     factors-if-allowed-requires
     put-pair-requires
     add-v-2
+    loop2-less
+    loop2-again
+    add-u
     loop-less
     loop-again
     same-length

@@ -3,10 +3,8 @@ use Prim.Native.Nat.{ℕ, _+_, _*_, _≤_, _<_}
 use mathlib.Core.Path.{_≡_}
 use mathlib.Core.Logic.{_⊎_}
 use mathlib.Core.List.{List}
-use lib.ListN.{length, getD}
+use lib.ListN.{length}
 use Rattle.chain.specs.Working.Same.{SameAllowed}
-use Rattle.job.specs.Job.{total}
-use Rattle.units.specs.Limits.{positions}
 use Rattle.job.specs.Working.Sound.{Sound}
 use Rattle.job.specs.declared.Job.{Job}
 use Rattle.costs.specs.Costs.{cmAt, cdAt, rdAt, rmAt}
@@ -14,11 +12,6 @@ use Rattle.costs.specs.Energy.{energyChain, ProductsFit}
 use Rattle.costs.specs.Working.Factors.{energyFactorsAt, FactorsIfAllowed}
 use Rattle.costs.specs.declared.Powers.{Powers}
 use Rattle.table.specs.Working.Table.{needed, cmStart, cdStart, rdStart, rmStart, entryOf, column, chainIn, Bounded}
-
--- the weight up to each position, up to position k
-pub record Totals (w : List ℕ) (k : ℕ) (sums : List ℕ) : Type 0 where
-  pub long : length sums ≡ positions
-  pub sums-at : (v : ℕ) → v ≤ k → getD sums v 0 ≡ total w v
 
 -- the pair (x, y) comes before (u, v)
 abbrev pub EarlierPair : (x y u v : ℕ) → Type 0
@@ -44,13 +37,6 @@ pub record TableOf (powers : Powers) (job : Job) (t : List ℕ) : Type 0 where
   pub same : SameAllowed (job .tasks) (chainIn t) (energyChain powers job)
 
 -- What each function of the fill asks.
-pub record ReadyForPairs (powers : Powers) (job : Job) (sums : List ℕ) (u : ℕ) (t : List ℕ) : Type 0 where
-  pub sound : Sound job
-  pub products : ProductsFit powers job
-  pub totals : Totals (job .weights) (job .tasks) sums
-  pub near : u < job .tasks
-  pub filled : PairsTo powers job u (u + 1) t
-
 pub record ReadyForCosts (powers : Powers) (job : Job) (t : List ℕ) : Type 0 where
   pub sound : Sound job
   pub products : ProductsFit powers job
