@@ -62,6 +62,14 @@ weighed-more powers job sound products u v weight a b running =
       ready = energy-ready powers job sound products u v b;
     }
 
+-- so the factors can be worked out, and are those of the pair
+module _ (powers : Powers) (job : Job) (u v weight cost : ℕ) (weighed : Weighed powers job u v weight) (verified : cost ≡ vAt job v) where
+  pub weighed-ready : ReadyForEnergy powers weight cost
+  weighed-ready = rw (weighed .between-ends, verified) (weighed .ready)
+
+  pub weighed-factors : (f : Factors) → FactorsIfAllowed (energyFactorsOf powers (job .platform) weight cost) f → FactorsIfAllowed (energyFactorsAt powers job u v) f
+  weighed-factors f e = rw (weighed .between-ends, verified) at e
+
 -- growth sums fit 32 bits
 pub factors-packable : (powers : Powers) (p : Platform) (W v : ℕ) (f : Factors) → FactorsIfAllowed (energyFactorsOf powers p W v) f → Packable f
 unfolding energyFactorsOf

@@ -11,7 +11,7 @@ use Rattle.costs.specs.declared.Powers.{Powers}
 use Rattle.table.proofs.Pairs.{needed-less}
 use Rattle.filling.specs.Weight.{weightAfter}
 use Rattle.filling.specs.Working.Fill.{PairsTo}
-use Rattle.filling.proofs.Fills.{weighed-more, factors-packable, pairs-none, pairs-more, pairs-next}
+use Rattle.filling.proofs.Fills.{weighed-more, weighed-ready, weighed-factors, factors-packable, pairs-none, pairs-more, pairs-next}
 use Rattle.filling.proofs.fill_pairs.Statement.{statement}
 use Rattle.filling.proofs.fill_pairs.Tie as tie
 use borrow.Author.Needs.{needs}
@@ -94,7 +94,7 @@ factors-if-allowed-requires c κs =
     let loop = c .before .before .before .before .loop in
     let loop2 = c .before .before .loop2 in
     let weighed = weighed-more (start .args .powers) (start .args .job) (start .pre .sound) (start .pre .products) (loop .u) (loop2 .v) (loop2 .weight) (loop2 .inv .order) (omega arith) (loop2 .inv .running) in
-    rw (weighed .between-ends, v-at .ensures .value) (weighed .ready)
+    weighed-ready _ _ _ _ _ _ weighed (v-at .ensures .value)
 
 put-pair-requires : tie.Need-put-pair-requires Inv-loop2 μ-loop2 Inv-loop μ-loop
 put-pair-requires c κs =
@@ -127,7 +127,7 @@ loop2-again c =
     let put-pair = c .before .before .put-pair in
     let t = c .before .t in
     let weighed = weighed-more (start .args .powers) (start .args .job) (start .pre .sound) (start .pre .products) (loop .u) (loop2 .v) (loop2 .weight) (loop2 .inv .order) (omega arith) (loop2 .inv .running) in
-    let factors = rw (weighed .between-ends, v-at .ensures .value) at (factors-if-allowed .ensures) in
+    let factors = weighed-factors _ _ _ _ _ _ weighed (v-at .ensures .value) _ (factors-if-allowed .ensures) in
     let next : loop2 .v + 1 - 1 ≡ loop2 .v = omega arith in
     record {
       order = omega (arith, loop2 .inv .order);
