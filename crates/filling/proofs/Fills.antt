@@ -32,7 +32,7 @@ use Rattle.table.proofs.Table.{length-putPair, putPair-here, putPair-apart, col
 use Rattle.filling.specs.Weight.{weightAfter}
 use Rattle.filling.specs.Working.Fill.{EarlierPair, PairsTo, TableTo, TableOf}
 
--- the running weight of a stretch, one addition a step, is the weight of the stretch
+-- the total up to u and the next k weights, added, are the total up to u + k
 pub weight-after : (w : List ℕ) (u k : ℕ) → total w u + weightAfter w u k ≡ total w (u + k)
 unfolding weightAfter
 weight-after w u zero = let e : u + zero ≡ u = omega arith in rw e (omega arith)
@@ -40,7 +40,7 @@ weight-after w u (suc k) =
     let e : u + suc k ≡ u + k + 1 = omega arith in
     rw (e, total-more w (u + k)) (omega (arith, weight-after w u k))
 
--- at the pair (u, v): the weight is that of tasks u + 1 to v, by which the factors of the pair are those of the chain
+-- at the pair (u, v): the weight is the sum of those of tasks u + 1 to v, it is W, and W and V are in range
 pub record Weighed (powers : Powers) (job : Job) (u v weight : ℕ) : Type 0 where
   pub sum : weight ≡ weightAfter (job .weights) u (v - u)
   pub between-ends : weight ≡ between (job .weights) u v

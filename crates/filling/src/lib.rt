@@ -18,7 +18,7 @@ use table::put_firsts;
 use table::put_in_column;
 use table::put_pair;
 
-// The factors of each stretch that is allowed. The weight runs with the far end: 0 at each near end, and one task more at each step.
+// The factors of each stretch that is allowed. One weight runs with the far end: set to 0 at each near end, and one task more at each step.
 fn fill_pairs(t: &mut [u32], powers: Powers, job: Job)
     requires { ⌜ ReadyToFill powers job (now t) ⌝ }
     ensures { λ _. ⌜ PairsTo powers job (job .tasks) (job .tasks + 1) (now (t .exit)) ⌝ }

@@ -35,7 +35,7 @@ passed-running place t = rw t
 pub passed-awaited : (place : Place) → awaits place ≡ true → passedBefore place ≡ place .position
 passed-awaited place t = rw t
 
--- what an event's place and its copies make: a run arrives there
+-- a run arrives at the place after an event, with the copies of that place
 pub record Arrives (run : Run) (e : Event) (next : Carried) : Type 0 where
   pub place : next .place ≡ nextPlace run e
   pub carries : Carries (standing run (nextPlace run e)) next
@@ -71,7 +71,7 @@ module _ (run : Run) (c : Carried) (ready : ReadyForEvent run c) where
           kept = rw (kept, run-place run (ready .unbroken) .kept) (total-mono w (s .position) p early);
         }
 
-    pub back-kept : KeptTo w (run .place) s
+    back-kept : KeptTo w (run .place) s
     back-kept = record { here = run-place run (ready .unbroken) .kept; there = kept }
 
   -- the copies that Failed and Stopped go back to

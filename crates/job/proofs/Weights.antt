@@ -31,7 +31,3 @@ between-total job u v h = omega (arith, total-mono (job .weights) v (job .tasks)
 
 pub between-range : (job : Job) → Sound job → (u v : ℕ) → v ≤ job .tasks → between (job .weights) u v ≤ costLimit
 between-range job s u v h = omega (arith, between-total job u v h, s .sum)
-
--- the total up to any position of the chain
-pub total-range : (job : Job) → Sound job → (v : ℕ) → v ≤ job .tasks → total (job .weights) v ≤ costLimit
-total-range job s v h = omega (arith, total-mono (job .weights) v (job .tasks) h, s .sum)

@@ -3,9 +3,9 @@ ghost use mathlib.Core.Path.{_≡_};
 ghost use Prim.Native.Nat.{_<_};
 ghost use mathlib.Core.Bool.{false};
 ghost use Rattle.rules.specs.Rules.{broken};
-ghost use Rattle.following.specs.Working.Lent.{lentRun, ReadyForEvent};
+ghost use Rattle.following.specs.Working.Lent.{lentRun, ReadyForEvent, moved};
 ghost use Rattle.logs.specs.Log.{recordCount, recordAt, badRecord, eventOf, orBefore, logOf};
-ghost use Rattle.logs.specs.Working.Once.{badFirst, refusalBefore, appliedOn, ended, Ends};
+ghost use Rattle.logs.specs.Working.Once.{badFirst, refusalBefore, appliedOn, Ends};
 use carried::Carried;
 use carried::taken_up;
 use events::Event;
@@ -93,7 +93,7 @@ fn bad_first(log: &[u8]) -> bool
 }
 
 fn ended(number: u64, carried: Carried) -> Moved
-    ensures { λ r. ⌜ r ≡ ended number carried ⌝ }
+    ensures { λ r. ⌜ r ≡ moved number carried ⌝ }
 {
     Moved { number, carried }
 }

@@ -6,7 +6,6 @@ use mathlib.Core.List.{List}
 use lib.Dec.{eqb}
 use Rattle.refusals.specs.Numbers
 use Rattle.refusals.specs.Refusals.{first}
-use Rattle.chain.specs.Time.{memory, disk}
 use Rattle.job.specs.declared.Platform.{Platform}
 use Rattle.state.specs.declared.Place.{Place}
 use Rattle.state.specs.declared.Run.{Run}
@@ -31,10 +30,10 @@ OverWeight weights position event r = (run : Run) → run .job .weights ≡ weig
 abbrev pub carrying : Place → (memory disk : Saved) → Carried
 carrying place memory disk = record { place = place; memory = memory; disk = disk }
 
--- the answer to an event: what is carried where the run arrives, unless the new total would pass the limit
 abbrev pub moved : ℕ → Carried → Moved
 moved number carried = record { number = number; carried = carried }
 
+-- what is carried where the run arrives, unless the new total would pass the limit
 abbrev pub arrived : (before next : Carried) → Moved
 arrived before next = cond (overTotal (next .place .sums)) (moved Numbers.overTotal before) (moved Numbers.accepted next)
 

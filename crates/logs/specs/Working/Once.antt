@@ -11,7 +11,6 @@ use Rattle.rules.specs.Rules.{broken}
 use Rattle.following.specs.Run.{standing, answered, accepted, refused}
 use Rattle.following.specs.Working.Lent.{stepOn}
 use Rattle.state.specs.declared.Run.{Run}
-use Rattle.carried.specs.declared.Carried.{Carried}
 use Rattle.following.specs.declared.Stepped.{Stepped}
 use Rattle.following.specs.declared.Moved.{Moved}
 use Rattle.logs.specs.Log.{recordAt, badRecord, eventOf, orBefore}
@@ -33,9 +32,6 @@ unfoldable pub appliedOn : Run → List ℕ → ℕ → Stepped
 appliedOn run log zero = accepted run
 appliedOn run log (suc k) = recordedOn (appliedOn run log k) (recordAt log k)
 
-abbrev pub ended : ℕ → Carried → Moved
-ended number carried = record { number = number; carried = carried }
-
--- the records before k lead to this number and place
+-- the records before k lead to this number and place; refused, to the place from before them
 abbrev pub Ends : Run → List ℕ → (k : ℕ) → Moved → Type 0
 Ends run log k m = answered (m .number) (standing run (m .carried .place)) ≡ orBefore run (appliedOn run log k)
