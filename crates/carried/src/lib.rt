@@ -5,7 +5,6 @@ ghost use lib.Dec.{leb};
 ghost use Prim.Native.Nat.{_+_, _≤_};
 ghost use Rattle.units.specs.Limits.{taskLimit};
 ghost use Rattle.rules.specs.Rules.{marksIn, passedBefore};
-ghost use Rattle.rules.specs.Working.Sound.{SoundRun};
 ghost use Rattle.carried.specs.Working.Carried.{SavedBefore, Carries, overMark};
 use chain::DISK;
 use chain::MEMORY;
@@ -49,9 +48,10 @@ fn passed_before(place: Place) -> usize
     place.position
 }
 
-// A run taken up: the copies that its passed marks have saved.
+// A run taken up: the copies that its passed marks have saved. `logs` alone calls this, with a run that has been tested for 21, so that its position is a place of
+// the arrays.
 pub fn taken_up(run: Run) -> Carried
-    requires { ⌜ SoundRun run ⌝ }
+    requires { ⌜ run .place .position ≤ taskLimit ⌝ }
     ensures { λ r. ⌜ Carries run r ⌝ }
 {
     let place = run.place;

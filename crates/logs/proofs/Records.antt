@@ -78,7 +78,8 @@ module _ (run : Run) (log : List ℕ) where
       go (inr l) ih = rw (ih (le-of-suc-le-suc l) r) (recorded-refused (applied run log k) (recordAt log n) r)
 
   -- where the first record is refused, its answer is that of the log
-  pub applied-first : (a : Stepped) → recorded (accepted run) (recordAt log 0) ≡ a → (a .number ≡ 0 → ⊥) → (n : ℕ) → 0 < n → orBefore run (applied run log n) ≡ refused (a .number) run
+  pub applied-first : (a : Stepped) → recorded (accepted run) (recordAt log 0) ≡ a → (a .number ≡ 0 → ⊥) → (n : ℕ) → 0 < n
+      → orBefore run (applied run log n) ≡ refused (a .number) run
   unfolding orBefore
   applied-first a is r n h =
       let first : applied run log 1 ≡ a = applied-suc 0 ∙ rw applied-zero is in

@@ -1,24 +1,24 @@
--- `carried::taken_up` meets its contract. A sound state's position is one of the tasks or the start, so that the marks passed are places of the array. Assumes nothing.
+-- `carried::taken_up` meets its contract. The position is one of the tasks or the start, so that the marks passed are places of the array. Assumes nothing.
 use mathlib.Core.Path.{refl}
-use Rattle.rules.proofs.Soundness.{position-range}
+use borrow.Author.Needs.{needs}
 use Rattle.carried.proofs.Copies.{passed-range}
 use Rattle.carried.proofs.taken_up.Statement.{statement}
 use Rattle.carried.proofs.taken_up.Tie as tie
 
 passed-before-requires : tie.Need-passed-before-requires
-passed-before-requires c κs = position-range (c .before .pre)
+passed-before-requires c κs = search needs
 
 saved-before-requires : tie.Need-saved-before-requires
 saved-before-requires c κs =
     let passed-before = c .passed-before in
     let start = c .before .before in
-    rw (passed-before .ensures) (passed-range (start .args .run .place) (position-range (start .pre)))
+    rw (passed-before .ensures) (passed-range (start .args .run .place) (start .pre))
 
 saved-before-requires-2 : tie.Need-saved-before-requires-2
 saved-before-requires-2 c κs =
     let passed-before = c .before .passed-before in
     let start = c .before .before .before in
-    rw (passed-before .ensures) (passed-range (start .args .run .place) (position-range (start .pre)))
+    rw (passed-before .ensures) (passed-range (start .args .run .place) (start .pre))
 
 returns : tie.Need-returns
 returns c =

@@ -6,12 +6,13 @@ use mathlib.Core.List.{List}
 use native.Mathlib.Nat.{le-trans}
 use native.Mathlib.Omega.{arith}
 use lib.ListN.{length}
+use Rattle.job.specs.Job.{weightAt}
 use Rattle.job.specs.declared.Job.{Job}
 use Rattle.costs.specs.declared.Powers.{Powers}
 use Rattle.table.proofs.Pairs.{needed-less}
 use Rattle.filling.specs.Weight.{weightAfter}
-use Rattle.filling.specs.Working.Fill.{PairsTo}
-use Rattle.filling.proofs.Fills.{weighed-more, weighed-ready, weighed-factors, factors-packable, pairs-none, pairs-more, pairs-next}
+use Rattle.filling.specs.Working.Fill.{PairsTo, ReadyToFill}
+use Rattle.filling.proofs.Fills.{Weighed, weighed-more, weighed-ready, weighed-factors, factors-packable, pairs-none, pairs-more, pairs-next}
 use Rattle.filling.proofs.fill_pairs.Statement.{statement}
 use Rattle.filling.proofs.fill_pairs.Tie as tie
 use borrow.Author.Needs.{needs}
@@ -27,6 +28,11 @@ record Near-to (t₀ : List ℕ) (powers : Powers) (job : Job) (t : List ℕ) (u
   pub within : u ≤ job .tasks
   pub pairs : PairsTo powers job u (u + 1) t
   pub same-long : length t ≡ length t₀
+
+-- the weight at hand and that of the task which ends at v
+weighed-here : {t₀ t₁ t : List ℕ} {powers : Powers} {job : Job} {u weight v : ℕ} → ReadyToFill powers job t₁ → Pairs-to t₀ powers job u t weight v
+    → v ≤ job .tasks → Weighed powers job u v (weight + weightAt (job .weights) (v - 1))
+weighed-here ready far within = weighed-more _ _ (ready .sound) (ready .products) _ _ _ (far .order) within (far .running)
 
 abbrev Inv-loop2 : tie.InvT-loop2
 Inv-loop2 t₀ powers job n platform weights weight₀ u v₀ t weight v = Pairs-to t₀ powers job u t weight v
@@ -76,9 +82,8 @@ cast-weight c = search needs
 add-weight : tie.Need-add-weight Inv-loop2 μ-loop2 Inv-loop μ-loop
 add-weight c =
     let start = c .before .before .before .before .before .before .before in
-    let loop = c .before .before .before .loop in
     let loop2 = c .before .loop2 in
-    let weighed = weighed-more (start .args .powers) (start .args .job) (start .pre .sound) (start .pre .products) (loop .u) (loop2 .v) (loop2 .weight) (loop2 .inv .order) (omega arith) (loop2 .inv .running) in
+    let weighed = weighed-here (start .pre) (loop2 .inv) (omega arith) in
     omega (arith, weighed .between-ends, weighed .ready)
 
 v-at-requires : tie.Need-v-at-requires Inv-loop2 μ-loop2 Inv-loop μ-loop
@@ -91,9 +96,8 @@ factors-if-allowed-requires :
 factors-if-allowed-requires c κs =
     let v-at = c .v-at in
     let start = c .before .before .before .before .before .before .before .before in
-    let loop = c .before .before .before .before .loop in
     let loop2 = c .before .before .loop2 in
-    let weighed = weighed-more (start .args .powers) (start .args .job) (start .pre .sound) (start .pre .products) (loop .u) (loop2 .v) (loop2 .weight) (loop2 .inv .order) (omega arith) (loop2 .inv .running) in
+    let weighed = weighed-here (start .pre) (loop2 .inv) (omega arith) in
     weighed-ready _ _ _ _ _ _ weighed (v-at .ensures .value)
 
 put-pair-requires : tie.Need-put-pair-requires Inv-loop2 μ-loop2 Inv-loop μ-loop
@@ -120,13 +124,12 @@ loop2-less c = omega arith
 loop2-again : tie.Need-loop2-again Inv-loop2 μ-loop2 Inv-loop μ-loop
 loop2-again c =
     let start = c .before .before .before .before .before .before .before .before .before .before .before .before .before in
-    let loop = c .before .before .before .before .before .before .before .before .before .loop in
     let loop2 = c .before .before .before .before .before .before .before .loop2 in
     let v-at = c .before .before .before .before .before .v-at in
     let factors-if-allowed = c .before .before .before .before .factors-if-allowed in
     let put-pair = c .before .before .put-pair in
     let t = c .before .t in
-    let weighed = weighed-more (start .args .powers) (start .args .job) (start .pre .sound) (start .pre .products) (loop .u) (loop2 .v) (loop2 .weight) (loop2 .inv .order) (omega arith) (loop2 .inv .running) in
+    let weighed = weighed-here (start .pre) (loop2 .inv) (omega arith) in
     let factors = weighed-factors _ _ _ _ _ _ weighed (v-at .ensures .value) _ (factors-if-allowed .ensures) in
     let next : loop2 .v + 1 - 1 ≡ loop2 .v = omega arith in
     record {

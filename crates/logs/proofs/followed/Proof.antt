@@ -1,6 +1,6 @@
 -- `logs::followed` meets its contract. A state that 21 accepts is taken up and lent in parts, which are the state itself. Assumes nothing.
 use mathlib.Core.Path.{_∙_}
-use Rattle.rules.proofs.Soundness.{run-sound}
+use Rattle.rules.proofs.Soundness.{run-sound, position-range}
 use Rattle.carried.proofs.Copies.{carries-own}
 use Rattle.logs.proofs.Once.{ends-own}
 use borrow.Author.Needs.{needs}
@@ -8,7 +8,7 @@ use Rattle.logs.proofs.followed.Statement.{statement}
 use Rattle.logs.proofs.followed.Tie as tie
 
 taken-up-requires : tie.Need-taken-up-requires
-taken-up-requires c κs = run-sound _ (c .before .before .before .before .pre)
+taken-up-requires c κs = position-range (run-sound _ (c .before .before .before .before .pre))
 
 slice-aggregate-applied : tie.Need-slice-aggregate-applied
 slice-aggregate-applied c = search needs
