@@ -111,9 +111,10 @@ put-in-column-requires-3 c κs =
 
 put-in-column-requires-4 : tie.Need-put-in-column-requires-4 Inv-loop μ-loop
 put-in-column-requires-4 c κs =
-    let pre = c .before .before .before .before .before .before .before .before .before .before .before .before .before .before .before .before .before .before .before .before .before .before .before .before .pre in
-    let loop = c .before .before .before .before .before .before .before .before .before .before .before .before .before .before .before .before .before .before .before .before .before .before .loop in
-    let rm-at = c .before .before .before .before .before .before .before .before .before .before .before .before .before .before .rm-at in
+    let entered = c .before .before .before .before .before .before .before .before .before .before .before .before .before .before in
+    let pre = entered .before .before .before .before .before .before .before .before .before .before .pre in
+    let loop = entered .before .before .before .before .before .before .before .before .loop in
+    let rm-at = entered .rm-at in
     let t = c .before .before .before .before .before .before .before .before .before .before .t in
     let t2 = c .before .before .before .before .before .before .t2 in
     let t3 = c .before .before .t3 in
@@ -124,7 +125,8 @@ put-in-column-requires-4 c κs =
 
 add-v : tie.Need-add-v Inv-loop μ-loop
 add-v c =
-    let pre = c .before .before .before .before .before .before .before .before .before .before .before .before .before .before .before .before .before .before .before .before .before .before .before .before .before .before .before .pre in
+    let entered = c .before .before .before .before .before .before .before .before .before .before .before .before .before .before in
+    let pre = entered .before .before .before .before .before .before .before .before .before .before .before .before .before .pre in
     omega (arith, pre .sound .few-tasks)
 
 loop-less : tie.Need-loop-less Inv-loop μ-loop
@@ -132,15 +134,16 @@ loop-less c = omega arith
 
 loop-again : tie.Need-loop-again Inv-loop μ-loop
 loop-again c =
-    let loop-test = c .before .before .before .before .before .before .before .before .before .before .before .before .before .before .before .before .before .before .before .before .before .before .before .before .loop-test in
-    let args = c .before .before .before .before .before .before .before .before .before .before .before .before .before .before .before .before .before .before .before .before .before .before .before .before .before .before .before .args in
-    let loop = c .before .before .before .before .before .before .before .before .before .before .before .before .before .before .before .before .before .before .before .before .before .before .before .before .before .loop in
-    let pre = c .before .before .before .before .before .before .before .before .before .before .before .before .before .before .before .before .before .before .before .before .before .before .before .before .before .before .before .pre in
-    let cm-at = c .before .before .before .before .before .before .before .before .before .before .before .before .before .before .before .before .before .before .before .before .before .before .before .cm-at in
-    let cd-at = c .before .before .before .before .before .before .before .before .before .before .before .before .before .before .before .before .before .before .before .before .before .cd-at in
-    let rd-at = c .before .before .before .before .before .before .before .before .before .before .before .before .before .before .before .before .before .before .before .rd-at in
-    let rm-at = c .before .before .before .before .before .before .before .before .before .before .before .before .before .before .before .before .before .rm-at in
-    let put-in-column = c .before .before .before .before .before .before .before .before .before .before .before .before .before .before .put-in-column in
+    let entered = c .before .before .before .before .before .before .before .before .before .before .before .before .before .before in
+    let loop-test = entered .before .before .before .before .before .before .before .before .before .before .loop-test in
+    let args = entered .before .before .before .before .before .before .before .before .before .before .before .before .before .args in
+    let loop = entered .before .before .before .before .before .before .before .before .before .before .before .loop in
+    let pre = entered .before .before .before .before .before .before .before .before .before .before .before .before .before .pre in
+    let cm-at = entered .before .before .before .before .before .before .before .before .before .cm-at in
+    let cd-at = entered .before .before .before .before .before .before .before .cd-at in
+    let rd-at = entered .before .before .before .before .before .rd-at in
+    let rm-at = entered .before .before .before .rm-at in
+    let put-in-column = entered .put-in-column in
     let put-in-column2 = c .before .before .before .before .before .before .before .before .before .before .put-in-column2 in
     let put-in-column3 = c .before .before .before .before .before .before .put-in-column3 in
     let put-in-column4 = c .before .before .put-in-column4 in
@@ -152,7 +155,16 @@ loop-again c =
     record {
       within = omega (arith, loop-test .taken);
       table =
-          rw (put-in-column4 .ensures, put-in-column3 .ensures, put-in-column2 .ensures, put-in-column .ensures, rm-at .ensures .value, rd-at .ensures .value, cd-at .ensures .value, cm-at .ensures .value)
+          rw (
+            put-in-column4 .ensures,
+            put-in-column3 .ensures,
+            put-in-column2 .ensures,
+            put-in-column .ensures,
+            rm-at .ensures .value,
+            rd-at .ensures .value,
+            cd-at .ensures .value,
+            cm-at .ensures .value,
+          )
           table;
       same-long = t4 .given ∙ t3 .given ∙ t2 .given ∙ t .given ∙ loop .inv .same-long;
     }
