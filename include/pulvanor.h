@@ -28,6 +28,7 @@ extern "C" {
 #define PULVANOR_SHEET 4096                   /* the most bytes of a sheet */
 #define PULVANOR_RECORD 5                     /* the bytes of a log's record */
 #define PULVANOR_POWER 16                     /* the highest power */
+#define PULVANOR_NAMES 16                     /* the most names that a run holds */
 #define PULVANOR_TIME ((1ULL << 34) - 1)      /* the longest time and the most energy that is given */
 
 /* 0 and a time in ticks, or a refusal and time 0. A plan by energy has its energy in place of the time. A time is
@@ -101,6 +102,31 @@ struct pulvanor_outcome {
     struct pulvanor_run run;
 };
 
+/* A name and the place that it has. */
+struct pulvanor_held {
+    uint8_t name;
+    struct pulvanor_place place;
+};
+
+/* A run with the names that it holds: the first `count` entries, in the order of their first naming. Entries past
+   them are never read, and stay as they are; a drop clears the one that it frees. A started run with count 0
+   holds no name. All names are of this one run: its sheet and its marks. */
+struct pulvanor_names {
+    size_t count;
+    struct pulvanor_held entries[PULVANOR_NAMES];
+};
+
+struct pulvanor_named_run {
+    struct pulvanor_run run;
+    struct pulvanor_names names;
+};
+
+/* 0 and the state after the call, or a refusal and the state given. */
+struct pulvanor_named_outcome {
+    uint64_t number;
+    struct pulvanor_named_run state;
+};
+
 /* G(y) and H(y) of document 01 with request 103, in units of 2^-24: at least 2^24 times the exact sum of the 33
    series terms, and less than 2 above it; 0 for y above 2^26, which no sum equals. */
 uint64_t pulvanor_growth(uint64_t y);
@@ -169,6 +195,21 @@ struct pulvanor_outcome pulvanor_start(const uint8_t *sheet, size_t sheet_length
    Refusals 12 and 21 to 25; the first of them hands back the state given. 21 is tested even for an empty
    log. */
 struct pulvanor_outcome pulvanor_follow(struct pulvanor_run run, const uint8_t *log, size_t log_length);
+
+/* Named places in a run. Naming holds the present place (position, awaited verification, five sums) under a name;
+   a name that is held already gets this place in place of its own. Returning puts the run back to the place of a
+   name, and later events count from there; the names stay as they are. Dropping forgets a name. All three work at
+   every position, in a finished run too.
+   21 comes first: of a state that breaks a rule of pulvanor_follow, has more than 16 names or one name twice, or
+   has a held place that breaks a rule for position, awaited verification or sums. Then 31 for a new name while 16
+   are held, and 30 for a drop of, or a return to, a name that is not held. */
+struct pulvanor_named_outcome pulvanor_name(struct pulvanor_named_run state, uint8_t name);
+struct pulvanor_named_outcome pulvanor_drop(struct pulvanor_named_run state, uint8_t name);
+struct pulvanor_named_outcome pulvanor_return(struct pulvanor_named_run state, uint8_t name);
+
+/* pulvanor_follow from a run with names, which it leaves as they are: the same refusals in the same order, 21 as
+   above. */
+struct pulvanor_named_outcome pulvanor_follow_named(struct pulvanor_named_run state, const uint8_t *log, size_t log_length);
 
 #ifdef __cplusplus
 }

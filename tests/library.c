@@ -131,6 +131,46 @@ static void stray_byte(void) {
     printf("its state is all 0: %s\n", all_zero(&o.run) ? "yes" : "no");
 }
 
+/* Where a run with names stands, and what it holds. */
+static struct pulvanor_named_run named(const char *name, struct pulvanor_named_outcome o) {
+    struct pulvanor_outcome plain = {o.number, o.state.run};
+    size_t i;
+    outcome(name, plain);
+    printf("  names");
+    for (i = 0; i < o.state.names.count && i < PULVANOR_NAMES; i++)
+        printf(" %d at %zu", o.state.names.entries[i].name, o.state.names.entries[i].place.position);
+    printf("\n");
+    return o.state;
+}
+
+/* A place named before the second task, and a return to it; 30, 31 and 21. */
+static void named_places(struct pulvanor_run run, const uint8_t *log) {
+    struct pulvanor_named_run state = {0};
+    struct pulvanor_named_outcome full;
+    int i;
+    state.run = run;
+    state = named("named: two events", pulvanor_follow_named(state, log, 10));
+    state = named("7 named", pulvanor_name(state, 7));
+    state = named("failed and done again", pulvanor_follow_named(state, log + 10, 15));
+    state = named("8 named", pulvanor_name(state, 8));
+    state = named("back to 7", pulvanor_return(state, 7));
+    state = named("finished after it", pulvanor_follow_named(state, log + 20, 10));
+    state = named("finished, back to 8", pulvanor_return(state, 8));
+    state = named("7 named again", pulvanor_name(state, 7));
+    named("9 is not held", pulvanor_return(state, 9));
+    state = named("7 dropped", pulvanor_drop(state, 7));
+    full.state = state;
+    for (i = 100; i < 115; i++)
+        full = pulvanor_name(full.state, i);
+    printf("16 names: number %llu, count %zu\n", (unsigned long long)full.number, full.state.names.count);
+    full = pulvanor_name(full.state, 7);
+    printf("a new one: number %llu, count %zu\n", (unsigned long long)full.number, full.state.names.count);
+    full = pulvanor_name(full.state, 8);
+    printf("8 again: number %llu, count %zu\n", (unsigned long long)full.number, full.state.names.count);
+    state.names.entries[0].place.sums.kept += 1;
+    named("a held place that breaks a rule", pulvanor_drop(state, 9));
+}
+
 int main(void) {
     static const uint8_t all[30] = {
         1, 0, 0, 0, 0, 2, 0, 0, 0, 0, 1, 0, 0, 0, 0, 3, 0, 0, 0, 0, 1, 0, 0, 0, 0, 2, 0, 0, 0, 0,
@@ -189,5 +229,6 @@ int main(void) {
     moved = start.run;
     moved.place.position = 1;
     outcome("a state that breaks a rule", pulvanor_follow(moved, all, 0));
+    named_places(start.run, all);
     return 0;
 }

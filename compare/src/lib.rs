@@ -8,12 +8,14 @@
 //!   written in bytes. They use `types`.
 //! - `reference`: document 01 and the requests read literally: `growth`,
 //!   `stretch`, `sheet`, `setting`, `plan`, `energy`, `printed`, `join`, `run`,
-//!   `log`, `calls`, each using those before it. It uses `types` and nothing else.
+//!   `log`, `names`, `calls`, each using those before it. It uses `types` and
+//!   nothing else.
 //! - `library`: the calls of the proved library. Uses `types`, `log_writer`
 //!   and, where a stand-in answers for the library, `reference`.
-//! - `harness`: random inputs (`marks`, `powers`, `jobs`, `sheets`, `runs`),
-//!   the counts (`changes`, `tally`, `plans`) and the comparison (`check`, which
-//!   calls `joins`, `energies` and `dearer`). Uses all of the above.
+//! - `harness`: random inputs (`marks`, `powers`, `jobs`, `sheets`, `runs`,
+//!   `commands`, `named_states`), the counts (`changes`, `tally`, `plans`) and
+//!   the comparison (`check`, which calls `joins`, `energies`, `dearer` and
+//!   `names`). Uses all of the above.
 //!
 //! Two programs use these: `compare` (`main.rs`), and `bench` (`bin/bench`)
 //! with two planners of its own that nothing else uses. `tests/circles.rs`

@@ -8,12 +8,12 @@ use crate::types::{Event, Outcome, Run};
 
 #[cfg(feature = "linked")]
 pub use linked::{
-    energy, follow, growth, join, lookup, mean_growth, plan, price, printed, start, NAME,
+    command, energy, follow, growth, join, lookup, mean_growth, plan, price, printed, start, NAME,
 };
 
 #[cfg(not(feature = "linked"))]
 pub use crate::reference::calls::{
-    energy, follow, growth, join, lookup, mean_growth, plan, price, printed, start,
+    command, energy, follow, growth, join, lookup, mean_growth, plan, price, printed, start,
 };
 
 #[cfg(not(feature = "linked"))]
@@ -26,7 +26,9 @@ pub fn step(run: &Run, event: Event) -> Outcome {
 
 #[cfg(feature = "linked")]
 mod linked {
-    use crate::types::{Answer, Found, Joined, Outcome, Powers, Run};
+    use crate::types::{
+        Answer, Command, Found, Joined, NamedRun, NamedStepped, Outcome, Powers, Run,
+    };
 
     pub const NAME: &str = "linked";
 
@@ -56,6 +58,10 @@ mod linked {
         ) -> Answer;
         fn pulvanor_start(s: *const u8, s_len: usize, m: *const u8, m_len: usize) -> Outcome;
         fn pulvanor_follow(run: Run, log: *const u8, log_len: usize) -> Outcome;
+        fn pulvanor_name(state: NamedRun, name: u8) -> NamedStepped;
+        fn pulvanor_drop(state: NamedRun, name: u8) -> NamedStepped;
+        fn pulvanor_return(state: NamedRun, name: u8) -> NamedStepped;
+        fn pulvanor_follow_named(state: NamedRun, log: *const u8, log_len: usize) -> NamedStepped;
     }
 
     pub fn growth(y: u64) -> u64 {
@@ -105,5 +111,16 @@ mod linked {
 
     pub fn follow(run: &Run, log: &[u8]) -> Outcome {
         unsafe { pulvanor_follow(*run, log.as_ptr(), log.len()) }
+    }
+
+    pub fn command(state: &NamedRun, command: &Command) -> NamedStepped {
+        match command {
+            Command::Name(name) => unsafe { pulvanor_name(*state, *name) },
+            Command::Drop(name) => unsafe { pulvanor_drop(*state, *name) },
+            Command::Return(name) => unsafe { pulvanor_return(*state, *name) },
+            Command::Follow(log) => unsafe {
+                pulvanor_follow_named(*state, log.as_ptr(), log.len())
+            },
+        }
     }
 }

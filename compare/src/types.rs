@@ -4,6 +4,9 @@
 /// The most tasks that a sheet may have.
 pub const MAX_TASKS: usize = 64;
 
+/// The most names that are held.
+pub const MAX_NAMES: usize = 16;
+
 /// Bytes of an event's record in a log.
 pub const RECORD_SIZE: usize = 5;
 
@@ -63,6 +66,8 @@ pub struct Place {
 }
 
 impl Place {
+    pub const ZERO: Place = Place { position: 0, awaiting: 0, sums: Sums::ZERO };
+
     pub fn awaits(&self) -> bool {
         self.awaiting != 0
     }
@@ -75,6 +80,48 @@ pub struct Run {
     pub job: Job,
     pub marks: [u8; MAX_TASKS],
     pub place: Place,
+}
+
+/// A name and the place that it is held for (request 109).
+#[derive(Clone, Copy, Debug, PartialEq, Eq)]
+#[repr(C)]
+pub struct Held {
+    pub name: u8,
+    pub place: Place,
+}
+
+impl Held {
+    /// An entry from which a drop has taken the name.
+    pub const FREE: Held = Held { name: 0, place: Place::ZERO };
+}
+
+/// The names that are held, in the order of first naming, and free entries.
+#[derive(Clone, Copy, Debug, PartialEq, Eq)]
+#[repr(C)]
+pub struct Names {
+    pub count: usize,
+    pub entries: [Held; MAX_NAMES],
+}
+
+impl Names {
+    pub const NONE: Names = Names { count: 0, entries: [Held::FREE; MAX_NAMES] };
+
+    /// The entries that are not free: all of them if the count passes 16.
+    pub fn held(&self) -> &[Held] {
+        &self.entries[..self.count.min(MAX_NAMES)]
+    }
+
+    pub fn holds(&self, name: u8) -> bool {
+        self.held().iter().any(|held| held.name == name)
+    }
+}
+
+/// The state of a run with its names.
+#[derive(Clone, Copy, Debug, PartialEq, Eq)]
+#[repr(C)]
+pub struct NamedRun {
+    pub run: Run,
+    pub names: Names,
 }
 
 /// The answer to a lookup: 0 or the refusal, and a part of the sheet.
@@ -109,6 +156,24 @@ pub struct Answer {
 pub struct Outcome {
     pub number: u64,
     pub run: Run,
+}
+
+/// The answer to a command: 0 or the refusal, and a state.
+#[derive(Clone, Copy, Debug, PartialEq, Eq)]
+#[repr(C)]
+pub struct NamedStepped {
+    pub number: u64,
+    pub state: NamedRun,
+}
+
+/// What is asked of a run with names; each is a call of its own.
+#[derive(Clone, Debug)]
+pub enum Command {
+    Name(u8),
+    Drop(u8),
+    Return(u8),
+    /// A log.
+    Follow(Vec<u8>),
 }
 
 /// An event of a run. It crosses the border as a record of a log.

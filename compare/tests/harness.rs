@@ -2,13 +2,16 @@
 
 use compare::harness::changes::Changes;
 use compare::harness::check;
+use compare::harness::commands::Pool;
 use compare::harness::dearer::{self, Pair};
 use compare::harness::jobs;
+use compare::harness::named_states::{self, ALTERATIONS};
 use compare::harness::runs;
 use compare::harness::tally::{Call, LongLogs, Tally, LONG_WANTED, NUMBERS, WANTED};
 use compare::random::Random;
 use compare::reference::energy::{self, EnergyCosts, MAX_POWER};
 use compare::reference::log;
+use compare::reference::names;
 use compare::reference::plan;
 use compare::reference::printed::{self, MAX_PRINTED_TASKS};
 use compare::reference::run;
@@ -16,7 +19,7 @@ use compare::reference::setting::MAX_TIME;
 use compare::reference::sheet;
 use compare::reference::stretch::Table;
 use compare::sheet_writer;
-use compare::types::{Answer, Platform, Powers, RECORD_SIZE};
+use compare::types::{Answer, NamedRun, Names, Platform, Powers, RECORD_SIZE};
 
 /// Two ways to one plan, on jobs made to have ties and edges.
 #[test]
@@ -176,7 +179,7 @@ fn complete_needs_every_number_and_every_edge_often() {
         assert!(!tally.complete());
         (0..WANTED).for_each(|_| tally.count(Call::Plan, number));
     }
-    let edges: [fn(&mut Tally) -> &mut u64; 55] = [
+    let edges: [fn(&mut Tally) -> &mut u64; 80] = [
         |t| &mut t.plans.tied,
         |t| &mut t.plans.zero_cost,
         |t| &mut t.plans.zero_rate,
@@ -232,6 +235,31 @@ fn complete_needs_every_number_and_every_edge_often() {
         |t| &mut t.dearer.none,
         |t| &mut t.dearer.to_limit,
         |t| &mut t.dearer.other_order,
+        |t| &mut t.commands.again,
+        |t| &mut t.commands.again_full,
+        |t| &mut t.commands.awaited,
+        |t| &mut t.commands.moved,
+        |t| &mut t.commands.back,
+        |t| &mut t.commands.onward,
+        |t| &mut t.commands.finished[0],
+        |t| &mut t.commands.finished[1],
+        |t| &mut t.commands.finished[2],
+        |t| &mut t.commands.after_12,
+        |t| &mut t.commands.empty,
+        |t| &mut t.commands.before_30,
+        |t| &mut t.commands.before_31,
+        |t| &mut t.commands.altered[0],
+        |t| &mut t.commands.altered[1],
+        |t| &mut t.commands.altered[2],
+        |t| &mut t.commands.altered[3],
+        |t| &mut t.commands.altered[4],
+        |t| &mut t.commands.altered[5],
+        |t| &mut t.commands.altered[6],
+        |t| &mut t.commands.altered[7],
+        |t| &mut t.commands.altered[8],
+        |t| &mut t.commands.altered[9],
+        |t| &mut t.commands.altered[10],
+        |t| &mut t.commands.altered[11],
     ];
     for edge in edges {
         assert!(!tally.complete());
@@ -250,6 +278,23 @@ fn long_logs_are_to_be_accepted_and_refused() {
     assert!(!complete(LONG_WANTED, 0));
     assert!(!complete(0, LONG_WANTED));
     assert!(complete(LONG_WANTED, LONG_WANTED));
+}
+
+/// An altered state breaks 21 if it is to be spoiled, and else does not.
+#[test]
+fn altered_states_are_as_drawn() {
+    let platform = Platform { failstop: 1, silent: 1, cd: 9, cm: 3, v: 2, rd: 8, rm: 4 };
+    let sheet = sheet_writer::sheet(&platform, &[5, 6, 7]);
+    let run = run::start(&sheet, &[2, 0, 3]).unwrap();
+    let state = NamedRun { run, names: Names::NONE };
+    let mut random = Random::new(109);
+    for _ in 0..200 {
+        let pool = Pool::new(&mut random);
+        for way in ALTERATIONS {
+            let altered = named_states::altered(&mut random, &pool, &state, way);
+            assert_eq!(names::is_broken(&altered), way.spoils());
+        }
+    }
 }
 
 /// A long log is accepted, or refused by its last record alone.

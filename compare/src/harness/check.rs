@@ -6,6 +6,7 @@ use crate::harness::jobs::{self, Case};
 use crate::harness::joins;
 use crate::harness::lent::{self, Lent};
 use crate::harness::marks;
+use crate::harness::names;
 use crate::harness::plans;
 use crate::harness::runs;
 use crate::harness::sheets;
@@ -20,6 +21,9 @@ use crate::reference::setting;
 use crate::reference::sheet;
 use crate::sheet_writer::HEADER_SIZE;
 use crate::types::{Answer, Event, Job, Outcome, Run, MAX_TASKS};
+
+/// Of so many runs in a hundred, named places are compared too.
+const NAMED_PERCENT: u64 = 30;
 
 /// One sheet at hand, with what is drawn and counted.
 struct Check<'a> {
@@ -248,6 +252,9 @@ impl Check<'_> {
         let marks = marks::allowed(self.random, job);
         if let Some(fresh) = self.start(&marks) {
             self.follow_run(&fresh);
+            if self.random.chance(NAMED_PERCENT) {
+                names::one(self.random, self.tally, &self.sheet, &fresh);
+            }
         }
     }
 

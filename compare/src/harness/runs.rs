@@ -3,7 +3,7 @@
 use crate::log_writer;
 use crate::random::Random;
 use crate::reference::run::{self, MAX_TOTAL};
-use crate::types::{Event, Job, Platform, Run, MAX_TASKS, RECORD_SIZE};
+use crate::types::{Event, Job, Platform, Run, Sums, MAX_TASKS, RECORD_SIZE};
 
 const ANY_LOST: [u32; 5] = [0, 1, 1 << 30, (1 << 30) + 1, u32::MAX];
 
@@ -48,13 +48,12 @@ pub fn near_total(r: &mut Random, run: &Run, event: Event) -> Run {
     let target = MAX_TOTAL - 1 + u128::from(r.below(4));
     let mut near = *run;
     let missing = target.saturating_sub(ticks + run.place.sums.total()) as u64;
-    *sum_field(r, &mut near) += missing;
+    *sum_field(r, &mut near.place.sums) += missing;
     near
 }
 
 /// One of the four sums that are not tied to the position.
-fn sum_field<'a>(r: &mut Random, run: &'a mut Run) -> &'a mut u64 {
-    let sums = &mut run.place.sums;
+pub fn sum_field<'a>(r: &mut Random, sums: &'a mut Sums) -> &'a mut u64 {
     match r.below(4) {
         0 => &mut sums.redone,
         1 => &mut sums.verify,
@@ -109,9 +108,9 @@ fn change_sums(r: &mut Random, run: &mut Run) {
         2 => MAX_TOTAL as u64 + 1,
         _ => r.sized(41),
     };
-    *sum_field(r, run) = value;
+    *sum_field(r, &mut run.place.sums) = value;
     if r.chance(20) {
-        *sum_field(r, run) = u64::MAX - r.below(3);
+        *sum_field(r, &mut run.place.sums) = u64::MAX - r.below(3);
     }
 }
 
@@ -126,7 +125,7 @@ fn change_marks(r: &mut Random, run: &mut Run) {
 }
 
 /// Entries past task n, which are carried along unread.
-fn change_unread(r: &mut Random, run: &mut Run) {
+pub fn change_unread(r: &mut Random, run: &mut Run) {
     for at in run.job.tasks.min(MAX_TASKS)..MAX_TASKS {
         run.job.weights[at] = r.draw() as u32;
         run.marks[at] = r.byte();

@@ -1,6 +1,7 @@
 //! Counts, and the report of differences.
 
 use crate::harness::changes::Changes;
+use crate::harness::named_states::ALTERATIONS;
 use std::fmt::Debug;
 
 /// The calls that answer with a number.
@@ -15,14 +16,31 @@ pub enum Call {
     Start,
     Step,
     Follow,
+    Name,
+    Drop,
+    Return,
+    FollowNamed,
 }
 
-const CALLS: [&str; 9] =
-    ["lookup", "join", "price", "plan", "printed", "energy", "start", "step", "follow"];
+const CALLS: [&str; 13] = [
+    "lookup",
+    "join",
+    "price",
+    "plan",
+    "printed",
+    "energy",
+    "start",
+    "step",
+    "follow",
+    "name",
+    "drop",
+    "return",
+    "named log",
+];
 
 /// Every refusal number of document 01 and of the requests.
-pub const NUMBERS: [u64; 22] =
-    [1, 2, 3, 4, 5, 28, 6, 7, 8, 9, 10, 11, 12, 13, 21, 22, 23, 24, 25, 26, 27, 29];
+pub const NUMBERS: [u64; 24] =
+    [1, 2, 3, 4, 5, 28, 6, 7, 8, 9, 10, 11, 12, 13, 21, 22, 23, 24, 25, 26, 27, 29, 30, 31];
 
 /// How often each refusal is to be seen in the default run.
 pub const WANTED: u64 = 100;
@@ -153,6 +171,34 @@ pub struct Dearer {
     pub other_order: u64,
 }
 
+/// Commands to runs with names at an edge (request 109).
+#[derive(Default)]
+pub struct Commands {
+    /// Naming again.
+    pub again: u64,
+    /// Naming again while 16 names are held.
+    pub again_full: u64,
+    /// Naming while a verification is awaited.
+    pub awaited: u64,
+    /// Drops of a name that is not the last.
+    pub moved: u64,
+    /// Returns to a place with fewer ticks, and to one with more.
+    pub back: u64,
+    pub onward: u64,
+    /// Naming, drops and returns in a finished run.
+    pub finished: [u64; 3],
+    /// Refused by 12 in the first record of a log though 21 holds.
+    pub after_12: u64,
+    /// Empty logs refused by 21.
+    pub empty: u64,
+    /// Refused by 21 though the name is not held, or 16 others are.
+    pub before_30: u64,
+    pub before_31: u64,
+    /// From a state altered in each way, in the order of `ALTERATIONS`: refused
+    /// by 21 where it is spoiled, accepted where it is not.
+    pub altered: [u64; ALTERATIONS.len()],
+}
+
 #[derive(Default)]
 pub struct Tally {
     pub sheets: u64,
@@ -168,8 +214,9 @@ pub struct Tally {
     pub strays: Strays,
     pub energies: Energies,
     pub dearer: Dearer,
+    pub commands: Commands,
     pub differences: u64,
-    counts: [[u64; 30]; 9],
+    counts: [[u64; 32]; 13],
 }
 
 fn hex(bytes: &[u8]) -> String {
@@ -233,10 +280,10 @@ impl Tally {
     }
 
     /// How often each edge was seen.
-    fn edges(&self) -> [(&'static str, u64); 55] {
+    fn edges(&self) -> [(&'static str, u64); 80] {
         let (l, j, r) = (&self.plans, &self.joins, &self.refills);
         let (p, s) = (&self.printed, &self.strays);
-        let (e, d) = (&self.energies, &self.dearer);
+        let (e, d, c) = (&self.energies, &self.dearer, &self.commands);
         [
             ("plans, tied", l.tied),
             ("plans, cost 0", l.zero_cost),
@@ -293,6 +340,31 @@ impl Tally {
             ("none raised", d.none),
             ("raised to 2^30", d.to_limit),
             ("in other order", d.other_order),
+            ("named again", c.again),
+            ("and 16 held", c.again_full),
+            ("named, awaiting", c.awaited),
+            ("dropped, not last", c.moved),
+            ("returned back", c.back),
+            ("returned onward", c.onward),
+            ("ended, named", c.finished[0]),
+            ("ended, dropped", c.finished[1]),
+            ("ended, returned", c.finished[2]),
+            ("12 before 21", c.after_12),
+            ("21, empty log", c.empty),
+            ("21 before 30", c.before_30),
+            ("21 before 31", c.before_31),
+            ("21, over 16 names", c.altered[0]),
+            ("21, a name twice", c.altered[1]),
+            ("21, held position", c.altered[2]),
+            ("21, held awaiting", c.altered[3]),
+            ("21, held kept", c.altered[4]),
+            ("21, held total", c.altered[5]),
+            ("21, the run", c.altered[6]),
+            ("21, run and names", c.altered[7]),
+            ("held, at 2^40", c.altered[8]),
+            ("held, awaits 255", c.altered[9]),
+            ("16 names held", c.altered[10]),
+            ("free, not 0", c.altered[11]),
         ]
     }
 
@@ -312,6 +384,11 @@ impl Tally {
     fn fallen(&self) -> u64 {
         let Dearer { plans, prices, energies, .. } = &self.dearer;
         plans.fell + prices.fell + energies.fell
+    }
+
+    fn named_commands(&self) -> u64 {
+        let calls = [Call::Name, Call::Drop, Call::Return, Call::FollowNamed];
+        calls.into_iter().map(|call| self.calls(call)).sum()
     }
 
     fn print_counts(&self) {
@@ -341,6 +418,7 @@ impl Tally {
         println!("logs              {}", self.calls(Call::Follow));
         println!("of 10,000 records {} accepted", self.long_logs.accepted);
         println!("                  {} refused by the last", self.long_logs.refused);
+        println!("named commands    {}", self.named_commands());
         println!("growth sums       {}", self.growths);
         println!("times of 2^34 - 1 {}", self.at_limit);
         println!("times of 2^34     {}", self.over_limit);

@@ -5,14 +5,15 @@ use crate::reference::energy as by_energy;
 use crate::reference::growth::{g, h};
 use crate::reference::join as joiner;
 use crate::reference::log;
+use crate::reference::names::{self, Followed};
 use crate::reference::plan as planner;
 use crate::reference::printed as equations;
 use crate::reference::run::{self, History};
 use crate::reference::setting;
 use crate::reference::sheet;
 use crate::types::{
-    Answer, Event, Found, Job, Joined, Outcome, Place, Platform, Powers, Refusal, Run, Sums,
-    MAX_TASKS,
+    Answer, Command, Event, Found, Job, Joined, NamedRun, NamedStepped, Outcome, Place, Platform,
+    Powers, Refusal, Run, MAX_TASKS,
 };
 
 /// The state of a refused start.
@@ -23,7 +24,7 @@ const ZERO: Run = Run {
         weights: [0; MAX_TASKS],
     },
     marks: [0; MAX_TASKS],
-    place: Place { position: 0, awaiting: 0, sums: Sums::ZERO },
+    place: Place::ZERO,
 };
 
 fn answer(result: Result<u64, Refusal>) -> Answer {
@@ -37,6 +38,13 @@ fn outcome(result: Result<Run, Refusal>, refused: &Run) -> Outcome {
     match result {
         Ok(run) => Outcome { number: 0, run },
         Err(number) => Outcome { number, run: *refused },
+    }
+}
+
+fn stepped(result: Result<NamedRun, Refusal>, refused: &NamedRun) -> NamedStepped {
+    match result {
+        Ok(state) => NamedStepped { number: 0, state },
+        Err(number) => NamedStepped { number, state: *refused },
     }
 }
 
@@ -107,4 +115,15 @@ pub fn step(run: &Run, event: Event) -> Outcome {
 pub fn next(history: &mut History, event: Event) -> Outcome {
     let before = history.run();
     outcome(history.step(event), &before)
+}
+
+/// One command from a state.
+pub fn command(state: &NamedRun, command: &Command) -> NamedStepped {
+    stepped(names::command(state, command), state)
+}
+
+/// One command after whole histories.
+pub fn next_command(followed: &mut Followed, command: &Command) -> NamedStepped {
+    let before = followed.state();
+    stepped(followed.obey(command).map(|()| followed.state()), &before)
 }

@@ -16,6 +16,11 @@ fn event(record: &[u8]) -> Result<Event, Refusal> {
     }
 }
 
+/// The events of a log, or refusal 12.
+pub fn events(log: &[u8]) -> Result<Vec<Event>, Refusal> {
+    log.chunks(RECORD_SIZE).map(event).collect()
+}
+
 /// A log from a state: 12 for each record, then 21 to 25 for its event.
 pub fn follow(run: &Run, log: &[u8]) -> Result<Run, Refusal> {
     if log.is_empty() && run::is_broken(run) {

@@ -5,6 +5,7 @@ pub mod energy;
 pub mod growth;
 pub mod join;
 pub mod log;
+pub mod names;
 pub mod plan;
 pub mod printed;
 pub mod run;

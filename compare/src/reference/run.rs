@@ -10,8 +10,7 @@ use crate::types::{Event, Job, Place, Refusal, Run, Sums, MAX_TASKS};
 pub const MAX_TOTAL: u128 = 1 << 40;
 
 fn fresh(job: Job, marks: &[u8]) -> Run {
-    let place = Place { position: 0, awaiting: 0, sums: Sums::ZERO };
-    let mut run = Run { job, marks: [0; MAX_TASKS], place };
+    let mut run = Run { job, marks: [0; MAX_TASKS], place: Place::ZERO };
     run.marks[..marks.len()].copy_from_slice(marks);
     run
 }
@@ -28,23 +27,32 @@ pub fn is_finished(run: &Run) -> bool {
     run.place.position == run.job.tasks && !run.place.awaits()
 }
 
-/// The condition of refusal 21.
-pub fn is_broken(run: &Run) -> bool {
-    let (job, place) = (&run.job, &run.place);
+/// The rules of refusal 21 for task count, sheet values and marks.
+fn breaks_values(run: &Run) -> bool {
+    let job = &run.job;
     if job.tasks == 0 || job.tasks > MAX_TASKS {
         return true;
     }
     let marks = &run.marks[..job.tasks];
-    if sheet::check_values(job).is_err() || setting::check_marks(job, marks).is_err() {
-        return true;
-    }
+    sheet::check_values(job).is_err() || setting::check_marks(job, marks).is_err()
+}
+
+/// Those for position, awaited verification and sums, for a place in a run that
+/// keeps the others.
+pub fn breaks_place(run: &Run, place: &Place) -> bool {
+    let job = &run.job;
     if place.position > job.tasks {
         return true;
     }
-    if place.awaits() && (place.position == 0 || marks[place.position - 1] == 0) {
+    if place.awaits() && (place.position == 0 || run.marks[place.position - 1] == 0) {
         return true;
     }
     u128::from(place.sums.kept) != job.weight(0, place.position) || place.sums.total() > MAX_TOTAL
+}
+
+/// The condition of refusal 21.
+pub fn is_broken(run: &Run) -> bool {
+    breaks_values(run) || breaks_place(run, &run.place)
 }
 
 /// Refusals 21 to 24 for an event.
@@ -257,6 +265,13 @@ impl History {
         *self = History { run, replay: Some(replay) };
         Ok(run)
     }
+}
+
+/// The state after events that were accepted one after the other.
+pub fn replayed(base: &Run, events: &[Event]) -> Run {
+    let mut replay = Replay::new(base);
+    events.iter().for_each(|&event| replay.apply(event));
+    replay.run()
 }
 
 /// One event from a state.

@@ -63,13 +63,21 @@ fn is_help() -> bool {
     check::same(&word[..n], b"--help")
 }
 
-// Calls that are answered by their words alone, and whether this is one: a first word of `--help` prints how the program is used; more words than `most`, the
-// program's own name among them, have a line in a file.
+// A first word of `--help` prints how the program is used; whether it is one.
+pub fn help_answered(usage: &[u8]) -> bool {
+    if !is_help() {
+        return false;
+    }
+    if !io::write_all(STDOUT_FILENO, usage) {
+        unwritten();
+    }
+    true
+}
+
+// Calls that are answered by their words alone, and whether this is one: `--help`, and more words than `most`, the program's own name among them, which have a
+// line in a file.
 pub fn words_answered_to(file: i32, most: usize, usage: &[u8]) -> bool {
-    if is_help() {
-        if !io::write_all(STDOUT_FILENO, usage) {
-            unwritten();
-        }
+    if help_answered(usage) {
         return true;
     }
     if most < os::arg_count() {

@@ -36,6 +36,12 @@ use Rattle.events.specs.Events.{afterDone, afterPassed, backToMemory, backToDis
 use Rattle.following.specs.Run.{nextPlace, outOfTurn, overWeight, stepRefusal, stepOf}
 use Rattle.starting.specs.Start.{startRefusal, startOf}
 use Rattle.history.specs.Events.{steps}
+use Rattle.logs.specs.Log.{recordCount, recordAt, badRecord, eventOf}
+use Rattle.names.specs.Names.{noNames, isHeld, slotOf, putAt, without, naming, dropping, placeUnder, holding}
+use Rattle.named.specs.Named.{nameTwice, somePlaceBroken, badNames, brokenNamed}
+use Rattle.naming.specs.Calls.{answer, notHeld, namesFull, nameOf, dropOf, returnOf}
+use Rattle.naming.specs.Log as log
+use Rattle.naming.specs.Turns.{callOf, inTurn}
 use Rattle.examples.specs.Starred.{
   headerA,
   platformA,
@@ -55,6 +61,7 @@ use Rattle.examples.specs.Starred.{
   timeUnder,
   numberUnder,
   runOfA,
+  namedOfA,
   starred,
   allAgree,
 }
@@ -83,7 +90,11 @@ unfolding up
     afterDone afterPassed backToMemory backToDisk placeAfter nextPlace outOfTurn overWeight stepRefusal stepOf
     startRefusal startOf
     steps
-    headerA platformA weightsA sheetA weightsFirst strayBefore strayBetween strayAfter strayKinds strayOverlap sheetOne sheetB dearA energyUnder timeUnder numberUnder runOfA starred allAgree
+    recordCount recordAt badRecord eventOf
+    noNames isHeld slotOf putAt without naming dropping placeUnder holding nameTwice somePlaceBroken badNames brokenNamed
+    answer notHeld namesFull nameOf dropOf returnOf
+    log.stepOf log.recorded log.applied log.orBefore log.emptyLog log.logOf callOf inTurn
+    headerA platformA weightsA sheetA weightsFirst strayBefore strayBetween strayAfter strayKinds strayOverlap sheetOne sheetB dearA energyUnder timeUnder numberUnder runOfA namedOfA starred allAgree
 starred-examples = refl
 
 -- sheet B by the powers 3 and 5: marks 3233 are allowed and take less energy than 3333, which `plan` prints for it

@@ -1,4 +1,4 @@
--- The starred examples of document 01, growths and times worked out anew by request 103, and the team's own for requests 105 and 106: one list of a number that the
+-- The starred examples of document 01, growths and times worked out anew by request 103, and the team's own for requests 105, 106 and 109: one list of a number that the
 -- definitions give and the number expected, and one test over it.
 use Prim.Native.Nat.{ℕ, _+_, _^_}
 use mathlib.Core.Bool.{Bool, true, _&&_}
@@ -13,6 +13,10 @@ use Rattle.planning.specs.Energy.{energyRefusal}
 use Rattle.starting.specs.Start.{startOf}
 use Rattle.history.specs.Events.{steps}
 use Rattle.state.specs.declared.Sums.{Sums}
+use Rattle.names.specs.Names.{noNames}
+use Rattle.naming.specs.Turns.{Call, inTurn}
+use Rattle.naming.specs.Turns.Call.{logged, named, dropped, returned}
+use Rattle.naming.specs.declared.NamedStepped.{NamedStepped}
 use Rattle.events.specs.declared.Event.the-variants.{Done, Passed, Failed}
 
 -- A's header with the pairs (a, b), (c, d): bytes 1, 2, 2, 0, then four fields below 2^8
@@ -95,6 +99,16 @@ unfoldable pub runOfA : Sums
 runOfA =
     steps (startOf sheetA (2 ∷ 3 ∷ []) .run) (Done ∷ Passed ∷ Done ∷ Failed ∷ Done ∷ Passed ∷ []) .run .place .sums
 
+-- the same run with names, the team's own for request 109: Done, Passed, then 7 is named; after Done, Failed and Done, Passed it is finished and 8 is named
+unfoldable pub namedOfA : List Call → NamedStepped
+namedOfA calls =
+    inTurn (record { run = startOf sheetA (2 ∷ 3 ∷ []) .run; names = noNames })
+    (logged (1 ∷ 0 ∷ 0 ∷ 0 ∷ 0 ∷ 2 ∷ 0 ∷ 0 ∷ 0 ∷ 0 ∷ [])
+    ∷ named 7
+    ∷ logged (1 ∷ 0 ∷ 0 ∷ 0 ∷ 0 ∷ 3 ∷ 0 ∷ 0 ∷ 0 ∷ 0 ∷ 1 ∷ 0 ∷ 0 ∷ 0 ∷ 0 ∷ 2 ∷ 0 ∷ 0 ∷ 0 ∷ 0 ∷ [])
+    ∷ named 8
+    ∷ calls)
+
 pub record Example : Type 0 where
   -- what the definitions give
   pub given : ℕ
@@ -147,6 +161,12 @@ starred =
     ∷ example (runOfA .verify) 2784
     ∷ example (runOfA .saves) 7000
     ∷ example (runOfA .recovery) 1000
+    ∷ example (namedOfA (returned 7 ∷ []) .state .run .place .position) 1
+    ∷ example (namedOfA (returned 7 ∷ []) .state .run .place .sums .redone) 0
+    ∷ example (namedOfA (returned 7 ∷ []) .state .run .place .sums .verify) 928
+    ∷ example (namedOfA (returned 7 ∷ returned 8 ∷ []) .state .run .place .sums .redone) 131072
+    ∷ example (namedOfA (returned 7 ∷ dropped 7 ∷ []) .state .names .count) 1
+    ∷ example (namedOfA (dropped 7 ∷ returned 7 ∷ []) .number) 30
     ∷ []
 
 -- each example gives what is expected

@@ -1,2 +1,4 @@
--- Logs that are read piece by piece.
+-- Logs that are read piece by piece, calls in turn, and calls of no words.
 pub mod Pieces
+pub mod Turns
+pub mod Plain

@@ -147,7 +147,7 @@ fn followed(run: Run, log: &[u8]) -> Stepped
 }
 
 // What is tested before the first event, even for an empty log: 12 of the first record, then 21.
-fn refusal_before(run: Run, log: &[u8]) -> u64
+pub fn refusal_before(run: Run, log: &[u8]) -> u64
     ensures { λ r. ⌜ r ≡ refusalBefore run (now (log .entry)) ⌝ }
 {
     if bad_first(log) {

@@ -17,7 +17,7 @@ use Rattle.lines.specs.Lines.{space, wordsLine, numberLine, marksLine, Room, Pu
 use Rattle.lines.proofs.Lines.{numbered-most, length-words, length-marked}
 use Rattle.lines.proofs.Buffers.{puts-text, puts-length}
 use Rattle.output.specs.Words.{marksWord, keptWord, redoneWord, verifyWord, savesWord, recoveryWord, positionWord, awaitedWord, yesWord, noWord, timeWord}
-use Rattle.output.specs.Texts.{refusedText, complaintText, planText, priceText, awaitedText, sumsText, runText, longestWord, lineRoom, textRoom, Holds}
+use Rattle.output.specs.Texts.{refusedText, complaintText, planText, priceText, awaitedText, sumsText, runText, longestWord, lineRoom, runLines, textRoom, Holds}
 use Rattle.output.specs.Working.Ready.{ReadyForComplaint}
 
 -- an empty room takes each text that is short enough
@@ -80,7 +80,7 @@ sums-fit sums w =
       line-fits recoveryWord (sums .recovery) (omega arith) (w .recovery),
     ))
 
-pub run-fits : (place : Place) → place .position ≤ wordMost → Words (place .sums) → length (runText place) ≤ textRoom
+pub run-fits : (place : Place) → place .position ≤ wordMost → Words (place .sums) → length (runText place) ≤ runLines * lineRoom
 unfolding runText
 run-fits place h w =
     simp length-append (omega (
@@ -89,6 +89,9 @@ run-fits place h w =
       awaited-fits (place .awaiting),
       sums-fit (place .sums) w,
     ))
+
+pub room-run : {a text : List ℕ} → textRoom ≡ length a → length text ≤ runLines * lineRoom → Room a 0 text
+room-run e h = room-empty e (omega arith)
 
 -- an answer that is refused, and one that is not
 pub plan-refused : (word : List ℕ) (answer : Answer) (marks : List ℕ) → (answer .number ≡ Numbers.accepted → ⊥) → planText word answer marks ≡ refusedText (answer .number)

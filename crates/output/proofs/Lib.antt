@@ -1,5 +1,6 @@
 -- Laws of the texts that are printed, and examples.
 pub mod Lengths
+pub mod HeldLines
 pub mod Prints
 pub mod Names
 pub mod Tells

@@ -1,4 +1,4 @@
--- The line of a file that cannot be read fits its room: the name is cut to the longest that a path may have. Assumes nothing.
+-- The line of a file that cannot be read fits its room, and that of an unknown word: the name is cut to the longest that a path may have. Assumes nothing.
 use Prim.Native.Nat.{ℕ, min, _≤_}
 use mathlib.Core.Path.{_≡_, sym, _∙_}
 use mathlib.Core.List.{List}
@@ -7,7 +7,9 @@ use native.Mathlib.Omega.{arith}
 use lib.ListN.{length, take, length-append}
 use lib.Seq.{take-all, length-take-le}
 use Rattle.lines.proofs.Lines.{length-words}
-use Rattle.output.specs.Texts.{pathRoom, textRoom}
+use Rattle.lines.specs.Lines.{wordsLine}
+use Rattle.output.specs.Words.{unknownWords}
+use Rattle.output.specs.Texts.{complaintText, pathRoom, textRoom}
 use Rattle.output.specs.Files.{namedText, unreadableText}
 use Rattle.output.specs.Working.Ready.{ReadyForComplaint}
 
@@ -27,3 +29,8 @@ pub unreadable-fits : (which path cause : List ℕ) (n : ℕ) → ReadyForCompla
 unfolding namedText unreadableText
 unreadable-fits which path cause n ready e =
     simp length-append (omega (arith, length-words cause, length-take-le n path (shown-within path n e), ready .words-short, ready .which-short))
+
+pub unknown-fits : (word : List ℕ) (n : ℕ) → n ≡ min (length word) pathRoom → length (complaintText unknownWords (take n word)) ≤ textRoom
+unfolding complaintText
+unknown-fits word n e =
+    omega (arith, length-append unknownWords (wordsLine (take n word)), length-words (take n word), length-take-le n word (shown-within word n e))

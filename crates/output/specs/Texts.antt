@@ -2,7 +2,7 @@
 use Prim.Native.Nat.{ℕ, _+_, _*_, _≤_}
 use mathlib.Core.Path.{_≡_}
 use mathlib.Core.Bool.{cond}
-use mathlib.Core.List.{List, _∷_, _++_}
+use mathlib.Core.List.{List, [], _∷_, _++_}
 use lib.Dec.{eqb}
 use lib.ListN.{length, take, replicate}
 use Rattle.units.specs.Limits.{taskLimit}
@@ -10,7 +10,10 @@ use Rattle.refusals.specs.Numbers
 use Rattle.refusals.specs.declared.Answer.{Answer}
 use Rattle.state.specs.declared.Sums.{Sums}
 use Rattle.state.specs.declared.Place.{Place}
-use Rattle.numerals.specs.Decimal.{wordDigits}
+use Rattle.names.specs.Names.{nameLimit, heldIn}
+use Rattle.names.specs.declared.Held.{Held}
+use Rattle.names.specs.declared.Names.{Names}
+use Rattle.numerals.specs.Decimal.{decimal, wordDigits}
 use Rattle.lines.specs.Lines.{space, wordsLine, numberLine, markDigits, marksLine}
 use Rattle.output.specs.Words.{
   timeWord,
@@ -25,6 +28,7 @@ use Rattle.output.specs.Words.{
   verifyWord,
   savesWord,
   recoveryWord,
+  nameWord,
 }
 use Rattle.output.specs.declared.Text.{Text}
 
@@ -62,6 +66,19 @@ sumsText sums =
 unfoldable pub runText : Place → List ℕ
 runText place = numberLine positionWord (place .position) ++ (awaitedText (place .awaiting) ++ sumsText (place .sums))
 
+-- a name that is held, and its position, on one line: `name 7 position 2`
+unfoldable pub heldLine : Held → List ℕ
+heldLine h = nameWord ++ (space ∷ (decimal (h .name) ++ (space ∷ numberLine positionWord (h .place .position))))
+
+-- one such line each, in their order
+unfoldable pub heldText : List Held → List ℕ
+heldText [] = []
+heldText (h ∷ hs) = heldLine h ++ heldText hs
+
+-- the lines of a run, then those of the names that it holds
+unfoldable pub standingText : Place → Names → List ℕ
+standingText place names = runText place ++ heldText (heldIn names)
+
 -- the longest word of a line
 abbrev pub longestWord : ℕ
 longestWord = 8
@@ -74,13 +91,17 @@ lineRoom = longestWord + wordDigits + 2
 abbrev pub runLines : ℕ
 runLines = 7
 
+-- the line of a held name: two words and two numbers
+abbrev pub heldRoom : ℕ
+heldRoom = 2 * lineRoom
+
 -- the longest name of a file
 abbrev pub pathRoom : ℕ
 pathRoom = 4096
 
--- the room that a text has: the lines of a run, a digit for each task, and the name of a file
+-- the room that a text has: the lines of a run and of all names that it may hold, a digit for each task, and the name of a file
 abbrev pub textRoom : ℕ
-textRoom = runLines * lineRoom + taskLimit + pathRoom
+textRoom = runLines * lineRoom + nameLimit * heldRoom + taskLimit + pathRoom
 
 -- a fresh buffer, which a program lends to a planner: a byte for each task that a sheet can have
 abbrev pub blankMarks : List ℕ

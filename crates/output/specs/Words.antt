@@ -52,3 +52,16 @@ endlessWords = t ∷ o ∷ o ∷ space ∷ l ∷ o ∷ n ∷ g ∷ colon ∷ spa
 
 abbrev pub logWord : List ℕ
 logWord = l ∷ o ∷ g ∷ []
+
+-- of the names that a run holds: the words of commands, `name` also of a line, and of a word that is none of them
+abbrev pub nameWord : List ℕ
+nameWord = n ∷ a ∷ m ∷ e ∷ []
+
+abbrev pub dropWord : List ℕ
+dropWord = d ∷ r ∷ o ∷ p ∷ []
+
+abbrev pub returnWord : List ℕ
+returnWord = r ∷ e ∷ t ∷ u ∷ r ∷ n ∷ []
+
+abbrev pub unknownWords : List ℕ
+unknownWords = u ∷ n ∷ k ∷ n ∷ o ∷ w ∷ n ∷ space ∷ w ∷ o ∷ r ∷ d ∷ colon ∷ space ∷ []

@@ -1,9 +1,10 @@
-// The line of a file that cannot be read: which it is, its name, and why.
+// The line of a file that cannot be read: which it is, its name, and why. The line of a word that is none of those known.
 ghost use mathlib.Core.Path.{_≡_};
 ghost use Prim.Native.Nat.{min};
 ghost use lib.ListN.{length, take};
 ghost use Rattle.lines.specs.Lines.{Room, Puts};
-ghost use Rattle.output.specs.Texts.{pathRoom, Holds};
+ghost use Rattle.output.specs.Words.{unknownWords};
+ghost use Rattle.output.specs.Texts.{pathRoom, complaintText, Holds};
 ghost use Rattle.output.specs.Files.{unreadableText, namedText};
 ghost use Rattle.output.specs.Working.Ready.{ReadyForComplaint};
 use crate::PATH_ROOM;
@@ -42,5 +43,16 @@ pub fn unreadable(which: &[u8], path: &[u8], cause: &[u8]) -> Text
     let n = shown(path);
     let named = put_named(&mut bytes, 0, which, &path[..n]);
     let length = put_words(&mut bytes, named, cause);
+    Text { bytes, length }
+}
+
+// A word that is none of those known.
+pub fn unknown_word(word: &[u8]) -> Text
+    ensures { λ r. ⌜ Holds (complaintText unknownWords (take pathRoom (now (word .entry)))) r ⌝ }
+{
+    let mut bytes = room();
+    let n = shown(word);
+    let told = put(&mut bytes, 0, b"unknown word: ");
+    let length = put_words(&mut bytes, told, &word[..n]);
     Text { bytes, length }
 }

@@ -1,7 +1,10 @@
 // The texts that the programs print, each made whole in its room, so that one call writes it. Nothing here reads or prints. What is asked, of short words and of
 // a task count, the programs meet: their words are fixed.
+mod entries;
 mod files;
 
+pub use entries::standing_text;
+pub use files::unknown_word;
 pub use files::unreadable;
 ghost use mathlib.Core.Path.{_≡_};
 ghost use Prim.Native.Nat.{_≤_};
@@ -13,6 +16,7 @@ use lines::put;
 use lines::put_marked;
 use lines::put_numbered;
 use lines::put_words;
+use names::NAME_LIMIT;
 use refusals::ACCEPTED;
 use refusals::Answer;
 use state::Place;
@@ -31,11 +35,17 @@ const LINE_ROOM: usize = LONGEST_WORD + WORD_DIGITS + 2;
 // The lines of a run.
 const RUN_LINES: usize = 7;
 
+// The line of a held name: two words and two numbers.
+const HELD_ROOM: usize = 2 * LINE_ROOM;
+
 // The longest name of a file.
 pub const PATH_ROOM: usize = 4096;
 
-// The lines of a run, a digit for each task, and the name of a file.
-pub const TEXT_ROOM: usize = RUN_LINES * LINE_ROOM + TASK_LIMIT + PATH_ROOM;
+// The lines of a run and of all names that it may hold, a digit for each task, and the name of a file.
+pub const TEXT_ROOM: usize = RUN_LINES * LINE_ROOM
+    + NAME_LIMIT * HELD_ROOM
+    + TASK_LIMIT
+    + PATH_ROOM;
 
 // A text: the first bytes of its room, and how many they are.
 pub struct Text {

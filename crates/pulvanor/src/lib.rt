@@ -9,9 +9,13 @@ ghost use Rattle.planning.specs.Energy.{PlansByEnergy};
 ghost use Rattle.engine.specs.Promise.{PlansAsPrinted};
 ghost use Rattle.starting.specs.Start.{startOf};
 ghost use Rattle.logs.specs.Log.{logOf};
+ghost use Rattle.naming.specs.Calls.{nameOf, dropOf, returnOf};
+ghost use Rattle.naming.specs.Log as named;
 use costs::Powers;
 use following::Stepped;
 use joining::Joined;
+use named::NamedRun;
+use naming::NamedStepped;
 use refusals::Answer;
 use sheet::Found;
 use starting::Started;
@@ -93,4 +97,35 @@ pub extern "C" fn pulvanor_follow(run: Run, log: &[u8]) -> Stepped
     ensures { λ r. ⌜ r ≡ logOf run (now (log .entry)) ⌝ }
 {
     logs::follow(run, log)
+}
+
+// The present place of a run, under a name.
+#[no_mangle]
+pub extern "C" fn pulvanor_name(state: NamedRun, name: u8) -> NamedStepped
+    ensures { λ r. ⌜ r ≡ nameOf state name ⌝ }
+{
+    naming::name(state, name)
+}
+
+#[no_mangle]
+pub extern "C" fn pulvanor_drop(state: NamedRun, name: u8) -> NamedStepped
+    ensures { λ r. ⌜ r ≡ dropOf state name ⌝ }
+{
+    naming::drop_name(state, name)
+}
+
+// Back to the place under a name.
+#[no_mangle]
+pub extern "C" fn pulvanor_return(state: NamedRun, name: u8) -> NamedStepped
+    ensures { λ r. ⌜ r ≡ returnOf state name ⌝ }
+{
+    naming::return_to(state, name)
+}
+
+// The records of a log, from a run with names.
+#[no_mangle]
+pub extern "C" fn pulvanor_follow_named(state: NamedRun, log: &[u8]) -> NamedStepped
+    ensures { λ r. ⌜ r ≡ named.logOf state (now (log .entry)) ⌝ }
+{
+    naming::follow(state, log)
 }

@@ -70,3 +70,9 @@ strayByte = 28
 
 abbrev pub badPower : ℕ
 badPower = 29
+
+abbrev pub notHeld : ℕ
+notHeld = 30
+
+abbrev pub namesFull : ℕ
+namesFull = 31

@@ -56,6 +56,11 @@ pub const STRAY_BYTE: u64 = 28;
 // Of the powers of a plan by energy, by request 106: tested after 8 and before 11.
 pub const BAD_POWER: u64 = 29;
 
+// Of the names that a run holds, by request 109: tested after 21.
+pub const NOT_HELD: u64 = 30;
+
+pub const NAMES_FULL: u64 = 31;
+
 // The answer to a call: number 0 and the time, or the number of its refusal and time 0. A plan by energy has its energy in place of the time.
 #[repr(C)]
 pub struct Answer {

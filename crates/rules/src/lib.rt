@@ -55,7 +55,7 @@ fn bad_awaiting(run: Run) -> bool
 }
 
 // What 21 asks of position, awaited verification and sums. The task count has passed check 3.
-fn broken_place(run: Run) -> bool
+pub fn broken_place(run: Run) -> bool
     requires { ⌜ run .job .tasks ≤ taskLimit ⌝ }
     ensures { λ r. ⌜ r ≡ brokenPlace (run .job) (marksIn run) (run .place) ⌝ }
 {

@@ -1,6 +1,6 @@
 //! `bench`: the library's plan beside two Rust planners, a plain one and one
 //! with bounds as the library has them, its plan by energy beside that by time,
-//! how many prices and steps a second, and what a record of a log takes.
+//! how many prices, steps and returns a second, and what a record of a log takes.
 
 // Loops go by positions, as the equations do.
 #![allow(clippy::needless_range_loop)]
@@ -19,10 +19,13 @@ use compare::harness::runs;
 use compare::library;
 use compare::random::Random;
 use compare::reference::log;
+use compare::reference::names;
 use compare::reference::run;
 use compare::reference::setting;
 use compare::reference::sheet;
-use compare::types::{Event, Job, Platform, Powers, Run, MAX_TASKS};
+use compare::types::{
+    Command, Event, Job, NamedRun, Names, Platform, Powers, Run, MAX_NAMES, MAX_TASKS,
+};
 use rows::Plan;
 use std::hint::black_box;
 use std::process::ExitCode;
@@ -185,6 +188,15 @@ fn middle(sheet: &[u8], n: usize) -> Run {
     run::step(&run, Event::Done).expect("in turn")
 }
 
+/// The run with its place held under 16 names.
+fn full(run: Run) -> NamedRun {
+    let mut state = NamedRun { run, names: Names::NONE };
+    for k in 0..MAX_NAMES {
+        state = names::command(&state, &Command::Name(k as u8)).expect("room");
+    }
+    state
+}
+
 fn calls() {
     println!("calls a second, Hera, every mark 2 and the last 3");
     println!("{:<18}{:>14}{:>14}{:>9}", "call", "library", "reference", "ratio");
@@ -199,6 +211,12 @@ fn calls() {
         let library = || library::step(black_box(&run), Event::Passed);
         let reference = || run::step(black_box(&run), Event::Passed);
         pace(&format!("step, {n} tasks"), 2000, library, reference);
+    }
+    for n in SIZES {
+        let (state, back) = (full(middle(&hera(n), n)), Command::Return(0));
+        let library = || library::command(black_box(&state), &back);
+        let reference = || names::command(black_box(&state), &back);
+        pace(&format!("return, {n} tasks"), 2000, library, reference);
     }
 }
 
@@ -267,6 +285,7 @@ mod tests {
     use compare::harness::runs;
     use compare::random::Random;
     use compare::reference::log;
+    use compare::reference::names;
     use compare::reference::plan;
     use compare::reference::run;
     use compare::reference::setting::MAX_TIME;

@@ -1,14 +1,14 @@
 -- `follow::follow_log` meets its contract. The loop's invariant: the state is reached by the pieces read so far, the buffer keeps its length and the pieces are within the budget; the
 -- measure is what is left of the budget, 2^48. Assumes nothing.
 use Prim.Native.Nat.{ℕ, _-_, _^_, _≤_}
-use mathlib.Core.Path.{_≡_, _∙_}
+use mathlib.Core.Path.{_≡_, refl, _∙_}
 use mathlib.Core.Logic.{inl, inr}
 use mathlib.Core.List.{List}
 use native.Mathlib.Omega.{arith}
-use borrow.Author.Needs.{needs}
 use lib.ListN.{length}
-use Rattle.state.specs.declared.Run.{Run}
-use Rattle.follow.proofs.Pieces.{Reached, reached-none, reached-more, reached-text}
+use Rattle.named.specs.declared.NamedRun.{NamedRun}
+use Rattle.follow.proofs.Pieces.{Reached, reached-none, reached-more, reached-leads}
+use borrow.Author.Needs.{needs}
 use Rattle.follow.proofs.follow_log.Statement.{statement}
 use Rattle.follow.proofs.follow_log.Tie as tie
 
@@ -18,10 +18,10 @@ pieceLength = 65535
 abbrev pieceLimit : ℕ
 pieceLimit = 2 ^ 48
 
-record Following (run state : Run) (piece : List ℕ) (i : ℕ) : Type 0 where
+record Following (first state : NamedRun) (piece : List ℕ) (i : ℕ) : Type 0 where
   pub within : i ≤ pieceLimit
   pub long : length piece ≡ pieceLength
-  pub reached : Reached run state
+  pub reached : Reached first state
 
 abbrev Inv-loop : tie.InvT-loop
 Inv-loop path file piece₀ state₀ i₀ piece state i = Following state₀ state piece i
@@ -38,11 +38,11 @@ slice-aggregate-read-all c = search needs
 read-all-requires : tie.Need-read-all-requires Inv-loop μ-loop
 read-all-requires c κs = search needs
 
-unreadable-requires : tie.Need-unreadable-requires Inv-loop μ-loop
-unreadable-requires c κs = search needs
+lose-requires : tie.Need-lose-requires Inv-loop μ-loop
+lose-requires c κs = search needs
 
 returns : tie.Need-returns Inv-loop μ-loop
-returns c = inr (inl (c .unreadable .ensures))
+returns c = inr (c .lose .ensures)
 
 array-share-prefix-piece : tie.Need-array-share-prefix-piece Inv-loop μ-loop
 array-share-prefix-piece c = search needs
@@ -53,23 +53,23 @@ slice-aggregate-follow c = search needs
 follow-requires : tie.Need-follow-requires Inv-loop μ-loop
 follow-requires c κs = search needs
 
-text-of-requires : tie.Need-text-of-requires Inv-loop μ-loop
-text-of-requires c κs = search needs
+lead-requires : tie.Need-lead-requires Inv-loop μ-loop
+lead-requires c κs = search needs
 
 returns-2 : tie.Need-returns-2 Inv-loop μ-loop
 returns-2 c =
-    let follow = c .before .before .before .follow in
-    let loop = c .before .before .before .before .before .before .before .before .before .before .loop in
-    inl (reached-text _ (loop .inv .reached) (rw (follow .ensures) at (c .text-of .ensures)))
+    let follow = (c .before .before .before) .follow in
+    let loop = (c .before .before .before .before .before .before .before .before .before .before) .loop in
+    inl (reached-leads _ (loop .inv .reached) (rw (follow .ensures) at (c .lead .ensures)))
 
-text-of-requires-2 : tie.Need-text-of-requires-2 Inv-loop μ-loop
-text-of-requires-2 c κs = search needs
+lead-requires-2 : tie.Need-lead-requires-2 Inv-loop μ-loop
+lead-requires-2 c κs = search needs
 
 returns-3 : tie.Need-returns-3 Inv-loop μ-loop
 returns-3 c =
-    let follow = c .before .before .before .before .follow in
-    let loop = c .before .before .before .before .before .before .before .before .before .before .before .loop in
-    inl (reached-text _ (loop .inv .reached) (rw (follow .ensures) at (c .text-of2 .ensures)))
+    let follow = (c .before .before .before .before) .follow in
+    let loop = (c .before .before .before .before .before .before .before .before .before .before .before) .loop in
+    inl (reached-leads _ (loop .inv .reached) (rw (follow .ensures) at (c .lead2 .ensures)))
 
 add-i : tie.Need-add-i Inv-loop μ-loop
 add-i c = omega arith
@@ -79,17 +79,18 @@ loop-less c = omega arith
 
 loop-again : tie.Need-loop-again Inv-loop μ-loop
 loop-again c =
-    let follow = c .before .before .before .before .follow in
-    let read = c .before .before .before .before .before .before .before .before .read-all in
-    let loop = c .before .before .before .before .before .before .before .before .before .before .before .loop in
-    let accepted = rw (follow .ensures) at (c .before .before .if2 .left) in
-    record { within = omega arith; long = read .kept .1 .0 ∙ loop .inv .long; reached = rw (follow .ensures) (reached-more _ accepted (loop .inv .reached)) }
+    let follow = (c .before .before .before .before) .follow in
+    let read = (c .before .before .before .before .before .before .before .before) .read-all in
+    let loop = (c .before .before .before .before .before .before .before .before .before .before .before) .loop in
+    let accepted = rw (follow .ensures) at ((c .before .before) .if2 .left) in
+    let test = (c .before .before .before .before .before .before .before .before .before .before) .loop-test in
+    record { within = omega (arith, test .taken); long = read .kept .1 .0 ∙ loop .inv .long; reached = rw (follow .ensures) (reached-more _ accepted (loop .inv .reached)) }
 
 endless-requires : tie.Need-endless-requires Inv-loop μ-loop
 endless-requires c κs = search needs
 
 returns-4 : tie.Need-returns-4 Inv-loop μ-loop
-returns-4 c = inr (inr (c .endless .ensures))
+returns-4 c = inr (record { told = inr ((c) .endless .ensures); last = refl })
 
 pub follow-log-spec : {M : Type 1} → statement M
 follow-log-spec =
@@ -100,14 +101,14 @@ follow-log-spec =
     loop-holds
     slice-aggregate-read-all
     read-all-requires
-    unreadable-requires
+    lose-requires
     returns
     array-share-prefix-piece
     slice-aggregate-follow
     follow-requires
-    text-of-requires
+    lead-requires
     returns-2
-    text-of-requires-2
+    lead-requires-2
     returns-3
     add-i
     loop-less

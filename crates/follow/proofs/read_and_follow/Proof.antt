@@ -1,5 +1,5 @@
 -- `follow::read_and_follow` meets its contract. Whatever is printed is in its room. Assumes nothing.
-use Rattle.follow.proofs.Pieces.{call-within}
+use Rattle.follow.proofs.Turns.{call-within}
 use borrow.Author.Needs.{needs}
 use Rattle.follow.proofs.read_and_follow.Statement.{statement}
 use Rattle.follow.proofs.read_and_follow.Tie as tie
@@ -23,7 +23,7 @@ open-and-follow-requires : tie.Need-open-and-follow-requires
 open-and-follow-requires c κs = search needs
 
 print-requires : tie.Need-print-requires
-print-requires c κs = call-within _ _ _ _ (c .open-and-follow .ensures)
+print-requires c κs = call-within _ _ _ _ _ (c .open-and-follow .ensures)
 
 returns-2 : tie.Need-returns-2
 returns-2 c = search needs

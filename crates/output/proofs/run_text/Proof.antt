@@ -1,6 +1,6 @@
 -- `output::run_text` meets its contract. The seven lines are no longer than the room. Assumes nothing.
 use native.Mathlib.Omega.{arith}
-use Rattle.output.proofs.Lengths.{Words, room-empty, room-holds, run-fits}
+use Rattle.output.proofs.Lengths.{Words, room-run, room-holds, run-fits}
 use borrow.Author.Needs.{needs}
 use Rattle.output.proofs.run_text.Statement.{statement}
 use Rattle.output.proofs.run_text.Tie as tie
@@ -17,7 +17,7 @@ put-run-requires c κs =
     let words : Words (start .args .place .sums) =
     record { kept = omega arith; redone = omega arith; verify = omega arith; saves = omega arith; recovery = omega arith } in
     let fits = run-fits (start .args .place) (omega arith) words in
-    room-empty (c .before .room .ensures) fits
+    room-run (c .before .room .ensures) fits
 
 returns : tie.Need-returns
 returns c =
@@ -26,7 +26,7 @@ returns c =
     let words : Words (start .args .place .sums) =
     record { kept = omega arith; redone = omega arith; verify = omega arith; saves = omega arith; recovery = omega arith } in
     let fits = run-fits (start .args .place) (omega arith) words in
-    room-holds (room-empty (room .room .ensures) fits) (c .before .put-run .ensures)
+    room-holds (room-run (room .room .ensures) fits) (c .before .put-run .ensures)
 
 pub run-text-spec : {M : Type 1} → statement M
 run-text-spec = tie.close (tie.spec room-requires slice-aggregate-put-run put-run-requires returns)

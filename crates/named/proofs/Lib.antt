@@ -1,0 +1,3 @@
+pub mod Once
+pub mod Places
+pub mod Passed
