@@ -69,10 +69,22 @@ before-log state log = go (eqb (length log) 0)
     go true = before-empty state
     go false = before-before state state (applied state log (recordCount log))
 
+before-number : (state : NamedRun) (s : NamedStepped) → orBefore state s .number ≡ s .number
+unfolding orBefore
+before-number state s = go (eqb (s .number) 0)
+  where
+    go : (b : Bool) → cond b s (answered (s .number) state) .number ≡ s .number
+    go true = refl
+    go false = refl
+
 -- what an answer leads to, whatever state a refusal hands back
 lead-before : {r : Led} (state : NamedRun) (s : NamedStepped) → Leads s r → Leads (orBefore state s) r
 lead-before state s l =
-    record { text = rw (before-text state s) (l .text); goes = λ e. rw (before-accepted state s (l .goes e .0)) (l .goes e) }
+    record {
+      text = rw (before-text state s) (l .text);
+      goes = λ e. rw (before-accepted state s (l .goes e .0)) (l .goes e);
+      ends = λ e z. l .ends e (sym (before-number state s) ∙ z);
+    }
 
 -- a state reached from another by pieces that were accepted
 pub record Reached (first state : NamedRun) : Type 0 where

@@ -1,7 +1,7 @@
 -- Calls that are made one by one have the text of all of them in turn. Assumes nothing.
 use Prim.Native.Nat.{ℕ, _+_, _-_, _*_, _<_, _≤_}
 use mathlib.Core.Path.{_≡_, refl, sym, _∙_, ap}
-use mathlib.Core.Bool.{false, true≢false}
+use mathlib.Core.Bool.{true, false, true≢false}
 use mathlib.Core.List.{List, [], _∷_, _++_, append-assoc, append-nil}
 use mathlib.Core.Logic.{_⊎_, inl, inr}
 use native.Mathlib.Decide.{ℕ-discrete}
@@ -15,6 +15,7 @@ use Rattle.named.specs.declared.NamedRun.{NamedRun}
 use Rattle.naming.specs.Calls.{answered}
 use Rattle.naming.specs.Turns.{Call, callOf, inTurn}
 use Rattle.naming.specs.Turns.Call.{logged}
+use Rattle.naming.specs.declared.NamedStepped.{NamedStepped}
 use Rattle.output.specs.Words.{nameWord, dropWord, returnWord}
 use Rattle.output.specs.Texts.{Holds}
 use Rattle.output.specs.declared.Text.{Text}
@@ -70,23 +71,27 @@ through-more {first} {state} {words} {left} {r} h t (inl l) e =
 through-more h t (inr l) e = absurd (true≢false (sym (l .lost .last) ∙ e))
 
 -- the last call
-pub through-last : {first state : NamedRun} {words left : ℕ} {r : Led} → 2 ≤ left → Through first state words left → CallLed state r → TurnsPrint first words (r .text)
-through-last {first} {state} {words} {left} {r} h t (inl l) =
+pub through-last : {first state : NamedRun} {words left : ℕ} {r : Led} → 2 ≤ left → Through first state words left → CallLed state r → r .last ≡ true
+    → TurnsPrint first words (r .text)
+through-last {first} {state} {words} {left} {r} h t (inl l) e =
+    let is = t .same (l .call ∷ []) ∙ one-call state (l .call) in
     inl (record {
       calls = t .calls ++ (l .call ∷ []);
       few = omega (arith, t .all, length-append (t .calls) (l .call ∷ []));
-      text = rw (t .same (l .call ∷ []) ∙ one-call state (l .call)) (l .leads .text);
+      all = λ z. absurd (l .leads .ends e (ap (λ (s : NamedStepped). s .number) (sym is) ∙ z));
+      text = rw is (l .leads .text);
     })
-through-last h t (inr l) = inr (record { asked = omega (arith, t .all); path = l .path; told = l .lost .told })
+through-last h t (inr l) e = inr (record { asked = omega (arith, t .all); path = l .path; told = l .lost .told })
 
 -- no word left
-pub through-end : {first state : NamedRun} {words left : ℕ} {r : Text} → Through first state words left → Holds (namedText (answered Numbers.accepted state)) r
-    → TurnsPrint first words r
+pub through-end : {first state : NamedRun} {words left : ℕ} {r : Text} → left < 2 → Through first state words left
+    → Holds (namedText (answered Numbers.accepted state)) r → TurnsPrint first words r
 unfolding inTurn
-through-end {first} {state} t held =
+through-end {first} {state} h t held =
     inl (record {
       calls = t .calls;
       few = omega (arith, t .all);
+      all = λ z. omega (arith, t .all, h);
       text = rw (ap (inTurn first) (sym (append-nil (t .calls))) ∙ t .same []) held;
     })
 
@@ -97,10 +102,18 @@ log-call path (inl l) = inl (record { call = logged (l .log); leads = l .leads }
 log-call path (inr l) = inr (record { path = path; lost = l })
 
 -- the log alone, where nothing is called after it
-pub log-last : {state : NamedRun} {path : List ℕ} {words : ℕ} {r : Led} → LogLed state path r → RunPrints state path words (r .text)
+pub log-last : {state : NamedRun} {path : List ℕ} {words : ℕ} {r : Led} → LogLed state path r → r .last ≡ true → RunPrints state path words (r .text)
 unfolding callOf
-log-last {state} (inl l) = inl (record { log = l .log; calls = []; few = omega arith; text = rw (one-call state (logged (l .log))) (l .leads .text) })
-log-last (inr l) = inr (inl (l .told))
+log-last {state} (inl l) e =
+    let is = one-call state (logged (l .log)) in
+    inl (record {
+      log = l .log;
+      calls = [];
+      few = omega arith;
+      all = λ z. absurd (l .leads .ends e (ap (λ (s : NamedStepped). s .number) (sym is) ∙ z));
+      text = rw is (l .leads .text);
+    })
+log-last (inr l) e = inr (inl (l .told))
 
 -- the log, and the calls after it
 pub log-then : {state : NamedRun} {path : List ℕ} {words : ℕ} {r : Led} {q : Text} → LogLed state path r → r .last ≡ false → TurnsPrint (r .state) words q
@@ -109,7 +122,9 @@ unfolding callOf
 log-then {state} {path} {words} {r} {q} (inl l) e (inl t) =
     let goes = l .leads .goes e in
     let text = rw (goes .1) at (t .text) in
-    inl (record { log = l .log; calls = t .calls; few = t .few; text = rw (call-then state (logged (l .log)) (t .calls) (goes .0)) text })
+    let all = rw (goes .1) at (t .all) in
+    let is = call-then state (logged (l .log)) (t .calls) (goes .0) in
+    inl (record { log = l .log; calls = t .calls; few = t .few; all = λ z. all (ap (λ (s : NamedStepped). s .number) (sym is) ∙ z); text = rw is text })
 log-then (inl l) e (inr t) = inr (inr t)
 log-then (inr l) e t = absurd (true≢false (sym (l .last) ∙ e))
 

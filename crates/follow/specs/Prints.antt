@@ -1,5 +1,5 @@
 -- What the program prints for a sheet, marks, a log and the words after it.
-use Prim.Native.Nat.{ℕ, _-_, _*_, _<_, _≤_}
+use Prim.Native.Nat.{ℕ, _+_, _-_, _*_, _<_, _≤_}
 use mathlib.Core.Path.{_≡_}
 use mathlib.Core.Bool.{true, false, cond}
 use mathlib.Core.Logic.{_⊎_}
@@ -49,6 +49,7 @@ pub record WordAnswers (state : NamedRun) (word : List ℕ) (k : ℕ) (r : Named
 pub record Leads (answer : NamedStepped) (r : Led) : Type 0 where
   pub text : Holds (namedText answer) (r .text)
   pub goes : r .last ≡ false → (answer .number ≡ 0) × (r .state ≡ answer .state)
+  pub ends : r .last ≡ true → answer .number ≡ 0 → ⊥
 
 -- nothing is called after a log that could not be read
 pub record Lost (path : List ℕ) (r : Led) : Type 0 where
@@ -77,10 +78,11 @@ pub record SomeLost (r : Led) : Type 0 where
 abbrev pub CallLed : NamedRun → Led → Type 0
 CallLed state r = CallLeads state r ⊎ SomeLost r
 
--- the text of calls in turn, one for each two words at most
+-- the text of calls in turn, one for each two words, unless a refusal ended them
 pub record TurnsText (state : NamedRun) (words : ℕ) (r : Text) : Type 0 where
   pub calls : List Call
   pub few : 2 * length calls ≤ words
+  pub all : inTurn state calls .number ≡ 0 → words < 2 * length calls + 2
   pub text : Holds (namedText (inTurn state calls)) r
 
 -- a later log that could not be read
@@ -97,6 +99,7 @@ pub record CallsText (state : NamedRun) (words : ℕ) (r : Text) : Type 0 where
   pub log : List ℕ
   pub calls : List Call
   pub few : 2 * length calls ≤ words
+  pub all : inTurn state (logged log ∷ calls) .number ≡ 0 → words < 2 * length calls + 2
   pub text : Holds (namedText (inTurn state (logged log ∷ calls))) r
 
 -- what is printed of the log of this name and the words after it

@@ -38,7 +38,7 @@ returns c =
     let words = (c .before .before .before .before .before) .words-after in
     let loop = (c .before .before .before .before) .loop in
     let test = (c .before .before .before) .loop-test in
-    rw (words .ensures) at (through-last (test .taken) (loop .inv .through) ((c .before .before) .call-at .ensures))
+    rw (words .ensures) at (through-last (test .taken) (loop .inv .through) ((c .before .before) .call-at .ensures) ((c .before) .if1 .taken))
 
 loop-less : tie.Need-loop-less Inv-loop μ-loop
 loop-less c = omega arith
@@ -56,7 +56,7 @@ text-of-requires : tie.Need-text-of-requires Inv-loop μ-loop
 text-of-requires c κs = search needs
 
 returns-2 : tie.Need-returns-2 Inv-loop μ-loop
-returns-2 c = rw ((c .before .before .before) .words-after .ensures) at (through-end ((c .before .before) .loop .inv .through) (c .text-of .ensures))
+returns-2 c = rw ((c .before .before .before) .words-after .ensures) at (through-end ((c .before) .loop-test .left) ((c .before .before) .loop .inv .through) (c .text-of .ensures))
 
 pub call-in-turn-spec : {M : Type 1} → statement M
 call-in-turn-spec =

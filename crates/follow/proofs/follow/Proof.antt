@@ -28,7 +28,7 @@ returns-2 c =
     let start = (c .before .before .before .before .before .before .before) .start in
     let number = rw (start .ensures) at ((c .before .before .before .before .before) .if1 .left) in
     let logged = rw (start .ensures, (c .before .before .before) .none .ensures) at ((c .before .before) .follow-log .ensures) in
-    record { refused = λ h. absurd (omega (arith, number)); followed = λ _. log-last logged }
+    record { refused = λ h. absurd (omega (arith, number)); followed = λ _. log-last logged ((c .before) .if2 .taken) }
 
 call-in-turn-requires : tie.Need-call-in-turn-requires
 call-in-turn-requires c κs = search needs
