@@ -108,14 +108,15 @@ struct pulvanor_held {
     struct pulvanor_place place;
 };
 
-/* A run with the names that it holds: the first `count` entries, in the order of their first naming. Entries past
-   them are never read, and stay as they are; a drop clears the one that it frees. A started run with count 0
-   holds no name. All names are of this one run: its sheet and its marks. */
+/* The names that are held: the first `count` entries, in the order of their first naming. Entries past them are
+   never read, and stay as they are; a drop clears the one that it frees. */
 struct pulvanor_names {
     size_t count;
     struct pulvanor_held entries[PULVANOR_NAMES];
 };
 
+/* A run with its names, which are of this one run: its sheet and its marks. A started run beside a count of 0
+   holds no name. */
 struct pulvanor_named_run {
     struct pulvanor_run run;
     struct pulvanor_names names;

@@ -33,12 +33,12 @@ use Rattle.named.specs.declared.NamedRun.{NamedRun}
 use Rattle.named.proofs.Passed.{named-passed, named-unbroken}
 use Rattle.naming.specs.Calls.{heldBy, withHeld, nameOf, dropOf, returnOf}
 use Rattle.naming.specs.Log.{logOf}
-use Rattle.naming.specs.Turns.{Call, callOf}
+use Rattle.naming.specs.Turns.{Call, callOf, inTurn}
 use Rattle.naming.specs.Turns.Call.{logged, named, dropped, returned}
 use Rattle.naming.specs.declared.NamedStepped.{NamedStepped}
 use Rattle.commands.specs.Commands.{Command, Told, nothing, among, besides, tells, tellsFrom, told}
 use Rattle.commands.specs.Commands.Command.{happen, name, drop, return}
-use Rattle.commands.specs.Callers.{commandsOf, triedCalls, takenCalls, Stands}
+use Rattle.commands.specs.Callers.{commandsOf, allCommands, triedCalls, takenCalls, Stands}
 use Rattle.commands.proofs.Naming.{holding-holds}
 use Rattle.commands.proofs.Sound.{name-accepted, drop-accepted, return-accepted, log-accepted, call-keeps-sound, call-refused-same}
 use Rattle.commands.proofs.Told.{entries, held-among, entries-naming, entries-dropping, entries-under, among-besides, among-named, tells-events}
@@ -52,6 +52,23 @@ tells-append : (t : Told) (cs ds : List Command) → tellsFrom t (cs ++ ds) ≡ 
 unfolding tellsFrom
 tells-append t [] ds = refl
 tells-append t (c ∷ cs) ds = tells-append (tells t c) cs ds
+
+-- calls that are all accepted are those tried in turn, and all their commands are taken
+turns-tried : (state : NamedRun) (calls : List Call) → inTurn state calls .number ≡ 0
+    → (triedCalls state calls ≡ inTurn state calls .state) × (takenCalls state calls ≡ allCommands calls)
+unfolding inTurn triedCalls takenCalls allCommands
+turns-tried state [] z = (refl, refl)
+turns-tried state (c ∷ cs) z = go (ℕ-discrete (callOf state c .number) 0) (turns-tried (callOf state c .state) cs)
+  where
+    go : Dec (callOf state c .number ≡ 0)
+        → (inTurn (callOf state c .state) cs .number ≡ 0
+        → (triedCalls (callOf state c .state) cs ≡ inTurn (callOf state c .state) cs .state) × (takenCalls (callOf state c .state) cs ≡ allCommands cs))
+        → (triedCalls (callOf state c .state) cs ≡ inTurn state (c ∷ cs) .state)
+        × (cond (eqb (callOf state c .number) 0) (commandsOf c) [] ++ takenCalls (callOf state c .state) cs ≡ commandsOf c ++ allCommands cs)
+    go (yes e) ih =
+        let rest = ih (rw (eq-eqb _ _ e) at z) in
+        rw (eq-eqb _ _ e) (rest .0, ap (λ (l : List Command). commandsOf c ++ l) (rest .1))
+    go (no e) ih = absurd (e (rw (ne-eqb _ _ e) at z))
 
 -- a start that was accepted
 module _ (sheet marks : List ℕ) (started : startOf sheet marks .number ≡ 0) where
@@ -212,3 +229,11 @@ module _ (sheet marks : List ℕ) (started : startOf sheet marks .number ≡ 0) 
           total = total-at t state fs;
           sound = fs .sound;
         }
+
+    -- where calls in turn are all accepted, none after a refusal, the state stands where the histories of all their commands say
+    pub turns-follow-history : (calls : List Call) → inTurn (record { run = startOf sheet marks .run; names = names }) calls .number ≡ 0
+        → Stands (jobOf sheet) (marksOf marks) (startOf sheet marks .run) (told (allCommands calls)) (inTurn (record { run = startOf sheet marks .run; names = names }) calls .state)
+    turns-follow-history calls z =
+        let start : NamedRun = record { run = startOf sheet marks .run; names = names } in
+        let both = turns-tried start calls z in
+        rw (← (both .0), ← (both .1)) (calls-follow-history calls)

@@ -27,6 +27,11 @@ commandsOf (named k) = name k ∷ []
 commandsOf (dropped k) = drop k ∷ []
 commandsOf (returned k) = return k ∷ []
 
+-- the commands of all calls
+unfoldable pub allCommands : List Call → List Command
+allCommands [] = []
+allCommands (c ∷ cs) = commandsOf c ++ allCommands cs
+
 unfoldable pub triedCalls : NamedRun → List Call → NamedRun
 triedCalls state [] = state
 triedCalls state (c ∷ cs) = triedCalls (callOf state c .state) cs

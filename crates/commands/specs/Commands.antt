@@ -35,7 +35,7 @@ unfoldable pub besides : ℕ → List ℕ → List ℕ
 besides k [] = []
 besides k (j ∷ js) = cond (eqb j k) (besides k js) (j ∷ besides k js)
 
--- an event extends the present history; naming k remembers it under k, in place of what k had; dropping k forgets; returning to k makes what k has the present
+-- an event extends the present history; naming k remembers it under k, in place of what k had; dropping k takes it from the names; returning to k makes what k has the present
 -- history, and 'the names themselves are not rewound'
 unfoldable pub tells : Told → Command → Told
 tells t (happen e) = record { present = t .present ++ (e ∷ []); names = t .names; remembered = t .remembered }

@@ -94,7 +94,7 @@ pub record LaterUnread (words : ℕ) (r : Text) : Type 0 where
 abbrev pub TurnsPrint : NamedRun → (words : ℕ) → Text → Type 0
 TurnsPrint state words r = TurnsText state words r ⊎ LaterUnread words r
 
--- the text of the log and of the calls after it, in turn: 'the first refusal of any command' ends them
+-- the text of the log and of the calls after it, in turn: the first refusal ends them
 pub record CallsText (state : NamedRun) (words : ℕ) (r : Text) : Type 0 where
   pub log : List ℕ
   pub calls : List Call
