@@ -2,15 +2,15 @@
 -- says, and just the names told are held, each with the place of the history that it remembers. Assumes nothing.
 use Prim.Native.Nat.{ℕ}
 use mathlib.Core.Path.{_≡_, refl, sym, _∙_, ap}
-use mathlib.Core.Bool.{Bool, true, false, cond, false≢true}
-use mathlib.Core.List.{List, [], _∷_, _++_, map}
+use mathlib.Core.Bool.{true, false, cond, false≢true}
+use mathlib.Core.List.{List, [], _∷_, _++_}
 use native.Mathlib.Decide.{ℕ-discrete}
 use native.Mathlib.Omega.{arith}
 use borrow.Author.Tests.{eq-eqb, ne-eqb}
 use lib.Dec.{eqb}
 use Rattle.sheet.specs.Reading.{jobOf}
 use Rattle.marks.specs.Marks.{marksOf}
-use Rattle.rules.specs.Rules.{totalOf, marksIn}
+use Rattle.rules.specs.Rules.{totalOf}
 use Rattle.state.specs.declared.Place.{Place}
 use Rattle.state.specs.declared.Run.{Run}
 use Rattle.following.specs.Run.{accepted, standing}
@@ -26,18 +26,17 @@ use Rattle.history.proofs.Histories.{ticks-are-sums}
 use Rattle.history.proofs.Logs.{steps-append, log-is-steps}
 use Rattle.history.proofs.Callers.{start-follows-history}
 use Rattle.names.specs.Names.{isHeld, naming, dropping, placeUnder}
-use Rattle.names.specs.declared.Held.{Held}
 use Rattle.names.specs.declared.Names.{Names}
 use Rattle.named.specs.Named.{nameTwice, somePlaceBroken, brokenNamed}
 use Rattle.named.specs.declared.NamedRun.{NamedRun}
 use Rattle.named.proofs.Passed.{named-passed, named-unbroken}
-use Rattle.naming.specs.Calls.{heldBy, withHeld, nameOf, dropOf, returnOf}
+use Rattle.naming.specs.Calls.{heldBy, nameOf, dropOf, returnOf}
 use Rattle.naming.specs.Log.{logOf}
 use Rattle.naming.specs.Turns.{Call, callOf, inTurn}
 use Rattle.naming.specs.Turns.Call.{logged, named, dropped, returned}
 use Rattle.naming.specs.declared.NamedStepped.{NamedStepped}
-use Rattle.commands.specs.Commands.{Command, Told, nothing, among, besides, tells, tellsFrom, told}
-use Rattle.commands.specs.Commands.Command.{happen, name, drop, return}
+use Rattle.commands.specs.Commands.{Command, Told, nothing, among, tells, tellsFrom, told}
+use Rattle.commands.specs.Commands.Command.{name, drop, return}
 use Rattle.commands.specs.Callers.{commandsOf, allCommands, triedCalls, takenCalls, Stands}
 use Rattle.commands.proofs.Naming.{holding-holds}
 use Rattle.commands.proofs.Sound.{name-accepted, drop-accepted, return-accepted, log-accepted, call-keeps-sound, call-refused-same}

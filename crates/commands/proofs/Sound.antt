@@ -1,17 +1,15 @@
 -- A state that an accepted call leaves is accepted by 21, and a refused call leaves the state. Assumes nothing.
-use Prim.Native.Nat.{ℕ, _+_, _≤_}
+use Prim.Native.Nat.{ℕ, _≤_}
 use mathlib.Core.Path.{_≡_, refl, sym, _∙_, ap}
-use mathlib.Core.Bool.{Bool, true, false, not, _&&_, cond}
+use mathlib.Core.Bool.{Bool, true, false, cond}
 use mathlib.Core.List.{List}
-use native.Mathlib.Decide.{ℕ-discrete}
 use native.Mathlib.Omega.{arith}
 use borrow.Author.Tests.{eq-eqb, ne-eqb, eqb-false, not-false}
-use lib.Dec.{eqb}
-use lib.ListN.{length, take, length-take}
+use lib.ListN.{length, length-take}
 use Rattle.refusals.specs.Numbers
-use Rattle.refusals.specs.Refusals.{Condition, first, has, distinct, Numbered, holdsAt}
+use Rattle.refusals.specs.Refusals.{first, has, distinct, Numbered}
 use Rattle.refusals.proofs.Refusals.{first-clear}
-use Rattle.rules.specs.Rules.{marksIn, marksRead, brokenPlace, broken}
+use Rattle.rules.specs.Rules.{marksIn, brokenPlace, broken}
 use Rattle.rules.proofs.Soundness.{run-values, run-place, place-passed, place-unbroken, unbroken}
 use Rattle.state.specs.declared.Place.{Place}
 use Rattle.state.specs.declared.Run.{Run}
@@ -19,12 +17,12 @@ use Rattle.following.specs.Run.{standing}
 use Rattle.logs.specs.Log as log
 use Rattle.logs.specs.Working.Once.{badFirst}
 use Rattle.history.proofs.LogsInTurn.{log-keeps-sound}
-use Rattle.names.specs.Names.{nameLimit, heldIn, isHeld, naming, dropping, placeUnder, holding}
+use Rattle.names.specs.Names.{nameLimit, isHeld, naming, dropping, placeUnder, holding}
 use Rattle.names.specs.declared.Held.{Held}
-use Rattle.named.specs.Named.{nameTwice, somePlaceBroken, badNames, brokenNamed}
+use Rattle.named.specs.Named.{nameTwice, somePlaceBroken, brokenNamed}
 use Rattle.named.specs.declared.NamedRun.{NamedRun}
-use Rattle.named.proofs.Passed.{NamedPassed, named-passed, named-unbroken, named-right}
-use Rattle.naming.specs.Calls.{heldBy, withHeld, atPlace, answered, answer, notHeld, namesFull, nameConditions, heldConditions, nameOf, dropOf, returnOf}
+use Rattle.named.proofs.Passed.{named-passed, named-unbroken, named-right}
+use Rattle.naming.specs.Calls.{heldBy, withHeld, atPlace, answer, notHeld, namesFull, nameConditions, heldConditions, nameOf, dropOf, returnOf}
 use Rattle.naming.specs.Log.{logOf, beside}
 use Rattle.naming.specs.Turns.{Call, callOf}
 use Rattle.naming.specs.Turns.Call.{logged, named, dropped, returned}

@@ -12,7 +12,7 @@ use Rattle.state.specs.declared.Place.{Place}
 use Rattle.names.specs.Names.{held, isHeld, naming, dropping, placeUnder}
 use Rattle.names.specs.declared.Held.{Held}
 use Rattle.named.specs.Named.{nameTwice}
-use Rattle.commands.specs.Commands.{Command, Told, among, besides, tells, tellsFrom}
+use Rattle.commands.specs.Commands.{Told, among, besides, tells, tellsFrom}
 use Rattle.commands.specs.Commands.Command.{happen}
 use Rattle.commands.proofs.Naming.{naming-none, naming-first, naming-other, dropping-none, dropping-first, dropping-other, under-first, under-other, once-head, once-tail}
 

@@ -5,19 +5,18 @@ use mathlib.Core.Bool.{Bool, true, false, cond}
 use mathlib.Core.List.{List, _++_, append-assoc}
 use native.Mathlib.Decide.{ℕ-discrete}
 use native.Mathlib.Omega.{arith}
-use borrow.Author.Tests.{eq-eqb, ne-eqb}
 use lib.Dec.{eqb}
 use lib.ListN.{length, getD, take, drop, replicate, length-append, length-replicate}
 use lib.Seq.{getD-append-add, getD-drop}
 use Rattle.refusals.specs.Refusals.{first}
-use Rattle.names.specs.Names.{noHeld, heldIn, naming, dropping, placeUnder, holding}
+use Rattle.names.specs.Names.{noHeld, naming, dropping, placeUnder, holding}
 use Rattle.names.specs.declared.Held.{Held}
 use Rattle.names.specs.declared.Names.{Names}
 use Rattle.named.specs.Named.{badNames, brokenNamed}
 use Rattle.named.specs.declared.NamedRun.{NamedRun}
 use Rattle.named.proofs.Passed.{named-right}
 use Rattle.naming.specs.Calls.{heldBy, withHeld, atPlace, answer, notHeld, namesFull, nameConditions, heldConditions, nameOf, dropOf, returnOf}
-use Rattle.naming.specs.Log.{logOf, beside}
+use Rattle.naming.specs.Log.{logOf}
 use Rattle.naming.specs.Turns.{Call, callOf}
 use Rattle.naming.specs.Turns.Call.{logged, named, dropped, returned}
 use Rattle.naming.specs.declared.NamedStepped.{NamedStepped}

@@ -1,5 +1,4 @@
 -- What a caller holds: calls tried in turn, whether or not those before them were accepted; the state after them, and the commands of those that were accepted.
-use Prim.Native.Nat.{ℕ}
 use mathlib.Core.Path.{_≡_}
 use mathlib.Core.Bool.{false, cond}
 use mathlib.Core.List.{List, [], _∷_, _++_, map}

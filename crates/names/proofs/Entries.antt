@@ -1,9 +1,9 @@
 -- Entries put and taken out: what the code stores is what the definitions say. Assumes nothing.
 use Prim.Native.Nat.{ℕ, suc, _+_, _-_, _≤_, _<_}
 use mathlib.Core.Path.{_≡_, refl, sym, _∙_, ap}
-use mathlib.Core.List.{List, [], _∷_, _++_, append-assoc, append-nil}
+use mathlib.Core.List.{List, [], _∷_, _++_, append-assoc}
 use native.Mathlib.Omega.{arith}
-use lib.ListN.{length, getD, take, drop, set, replicate, length-append, length-drop, take-append-drop, drop-of-length-le}
+use lib.ListN.{length, getD, take, drop, set, length-append, length-drop, take-append-drop, drop-of-length-le}
 use lib.Seq.{take-suc, drop-cons, drop-append-le, getD-append-add, set-at, set-split, getD-drop, take-take, take-at, length-take-le}
 use Rattle.names.specs.Names.{nameLimit, noHeld, heldIn, putAt, without, holding, put, takenOut}
 use Rattle.names.specs.declared.Held.{Held}

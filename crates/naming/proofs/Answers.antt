@@ -16,15 +16,6 @@ use Rattle.named.specs.declared.NamedRun.{NamedRun}
 use Rattle.named.proofs.Passed.{named-few}
 use Rattle.naming.specs.Calls.{heldBy, atPlace, answered, answer, notHeld, namesFull, nameOf, dropOf, returnOf}
 
--- the answer where nothing is refused, and where something is
-pub answer-accepted : (next state : NamedRun) → answer Numbers.accepted next state ≡ answered Numbers.accepted next
-unfolding answer
-answer-accepted next state = refl
-
-pub answer-refused : (number : ℕ) (next state : NamedRun) → (number ≡ 0 → ⊥) → answer number next state ≡ answered number state
-unfolding answer
-answer-refused number next state h = rw (ne-eqb _ _ h)
-
 -- a state that 21 turns down
 module _ (state : NamedRun) (k : ℕ) (b : brokenNamed state ≡ true) where
   pub name-broken : answered Numbers.broken state ≡ nameOf state k

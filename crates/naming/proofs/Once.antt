@@ -1,7 +1,7 @@
 -- A log from a run with names: 12 of its first record, then 21, then what the log gives of the run, beside the names. Testing 21 of the names once is the same as
 -- testing it at each record: a log leaves them, and the values and marks, as they are. Assumes nothing.
-use Prim.Native.Nat.{ℕ, zero, suc, _+_, _≤_, _<_}
-use mathlib.Core.Path.{_≡_, refl, sym, _∙_, ap}
+use Prim.Native.Nat.{ℕ, zero, suc, _<_}
+use mathlib.Core.Path.{_≡_, refl, sym, _∙_}
 use mathlib.Core.Bool.{Bool, true, false, cond, _||_, false≢true}
 use mathlib.Core.List.{List}
 use native.Mathlib.Decide.{ℕ-discrete}

@@ -1,7 +1,7 @@
 -- `named::some_place_broken` meets its contract. The loop's invariant: the places passed keep the rules. The measure is what is left of the entries.
 -- Assumes nothing.
 use Prim.Native.Nat.{_-_}
-use mathlib.Core.Path.{_≡_, sym, _∙_, ap}
+use mathlib.Core.Path.{sym, _∙_, ap}
 use native.Mathlib.Omega.{arith}
 use lib.ListN.{take}
 use Rattle.rules.specs.Rules.{marksIn, brokenPlace}

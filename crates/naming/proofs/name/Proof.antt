@@ -1,9 +1,7 @@
 -- `naming::name` meets its contract. Assumes nothing.
-use mathlib.Core.Path.{_≡_, sym, _∙_, ap}
-use native.Mathlib.Omega.{arith}
+use mathlib.Core.Path.{sym, _∙_}
 use Rattle.names.specs.Names.{nameLimit}
 use Rattle.names.specs.declared.Held.{Held}
-use Rattle.names.specs.declared.Names.{Names}
 use Rattle.names.proofs.Slots.{length-of}
 use Rattle.named.proofs.Passed.{named-few}
 use Rattle.naming.proofs.Answers.{name-broken, ready-to-put, name-full, name-put}

@@ -1,9 +1,8 @@
 -- `naming::return_to` meets its contract. Assumes nothing.
-use mathlib.Core.Path.{_≡_, sym, _∙_, ap}
+use mathlib.Core.Path.{sym, _∙_}
 use native.Mathlib.Omega.{arith}
 use Rattle.names.specs.Names.{nameLimit}
 use Rattle.names.specs.declared.Held.{Held}
-use Rattle.names.specs.declared.Names.{Names}
 use Rattle.names.proofs.Slots.{length-of, place-held}
 use Rattle.named.proofs.Passed.{named-few}
 use Rattle.names.specs.Names.{placeUnder}
