@@ -29,9 +29,17 @@ namedText s = cond (eqb (s .number) Numbers.accepted) (standingText (s .state .r
 abbrev pub unnamed : Run → NamedRun
 unnamed run = record { run = run; names = noNames }
 
--- the words after the program's own name, the marks and the log, of so many in all
+-- the program's own name, the marks and the log come before the pairs of words
+abbrev pub firstPair : ℕ
+firstPair = 3
+
+-- a word and its partner
+abbrev pub pair : ℕ
+pair = 2
+
+-- the words after the log, of so many in all
 abbrev pub wordsAfter : ℕ → ℕ
-wordsAfter count = count - 3
+wordsAfter count = count - firstPair
 
 -- a log that could not be read, or that has no end
 abbrev pub Unread : (path : List ℕ) → Text → Type 0
@@ -81,13 +89,13 @@ CallLed state r = CallLeads state r ⊎ SomeLost r
 -- the text of calls in turn, one for each two words, unless a refusal ended them
 pub record TurnsText (state : NamedRun) (words : ℕ) (r : Text) : Type 0 where
   pub calls : List Call
-  pub few : 2 * length calls ≤ words
-  pub all : inTurn state calls .number ≡ 0 → words < 2 * length calls + 2
+  pub few : pair * length calls ≤ words
+  pub all : inTurn state calls .number ≡ 0 → words < pair * length calls + pair
   pub text : Holds (namedText (inTurn state calls)) r
 
 -- a later log that could not be read
 pub record LaterUnread (words : ℕ) (r : Text) : Type 0 where
-  pub asked : 2 ≤ words
+  pub asked : pair ≤ words
   pub path : List ℕ
   pub told : Unread path r
 
@@ -98,8 +106,8 @@ TurnsPrint state words r = TurnsText state words r ⊎ LaterUnread words r
 pub record CallsText (state : NamedRun) (words : ℕ) (r : Text) : Type 0 where
   pub log : List ℕ
   pub calls : List Call
-  pub few : 2 * length calls ≤ words
-  pub all : inTurn state (logged log ∷ calls) .number ≡ 0 → words < 2 * length calls + 2
+  pub few : pair * length calls ≤ words
+  pub all : inTurn state (logged log ∷ calls) .number ≡ 0 → words < pair * length calls + pair
   pub text : Holds (namedText (inTurn state (logged log ∷ calls))) r
 
 -- what is printed of the log of this name and the words after it

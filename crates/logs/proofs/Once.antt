@@ -86,7 +86,7 @@ module _ (run : Run) (log : List ℕ) (right : broken run ≡ false) where
       on-accepted z = rw (add-one k) (next-event good ∙ rw (← is) (step-on-accepted state event z))
 
 -- the answers of a log: 12 of its first record, then 21, then its records
-some-records : (log : List ℕ) → (length log ≡ 0 → ⊥) → 0 < recordCount log
+pub some-records : (log : List ℕ) → (length log ≡ 0 → ⊥) → 0 < recordCount log
 unfolding recordCount
 some-records log h = omega (arith, h)
 

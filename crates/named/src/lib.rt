@@ -67,7 +67,7 @@ fn some_place_broken(run: Run, names: Names) -> bool
     false
 }
 
-// What 21 asks of the names. The run's task count has passed check 3.
+// What 21 asks of the names. The crates above call this once 21 accepts the run, whose task count has then passed check 3: held places are tested by its weights.
 pub fn bad_names(run: Run, names: Names) -> bool
     requires { ⌜ run .job .tasks ≤ taskLimit ⌝ }
     ensures { λ r. ⌜ r ≡ badNames (run .job) (marksIn run) names ⌝ }

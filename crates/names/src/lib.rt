@@ -44,7 +44,8 @@ impl Names {
     }
 }
 
-// The first entry of a name among those held, or their count where it is not held.
+// The first entry of a name among those held, or their count where it is not held. Callers have asked 21 of the count, and so this asks for it: entries are read
+// up to it.
 pub fn slot_of(names: Names, name: u8) -> usize
     requires { ⌜ names .count ≤ nameLimit ⌝ }
     ensures { λ r. ⌜ r ≡ slotOf name (heldIn names) ⌝ }
@@ -62,7 +63,7 @@ pub fn slot_of(names: Names, name: u8) -> usize
     count
 }
 
-// An entry in place of that at a slot, or after the last one.
+// An entry in place of that at a slot, or after the last one. Only `naming` calls this, with the slot that `slot_of` found and after 31: there is room.
 pub fn put(names: Names, slot: usize, held: Held) -> Names
     requires { ⌜ ReadyToPut names slot ⌝ }
     ensures { λ r. ⌜ r ≡ put names slot held ⌝ }
@@ -76,7 +77,7 @@ pub fn put(names: Names, slot: usize, held: Held) -> Names
     Names { count, entries }
 }
 
-// The entries without that at a slot: those after it move up, and the entry that becomes free is 0.
+// The entries without that at a slot: those after it move up, and the entry that becomes free is 0. Only `naming` calls this, after 30: the slot is held.
 pub fn take_out(names: Names, slot: usize) -> Names
     requires { ⌜ ReadyToTake names slot ⌝ }
     ensures { λ r. ⌜ r ≡ takenOut names slot ⌝ }

@@ -19,6 +19,7 @@ use Rattle.following.specs.declared.Stepped.{Stepped}
 use Rattle.logs.specs.Log as log
 use Rattle.logs.specs.Log.{recordCount, recordAt, badRecord, eventOf}
 use Rattle.logs.specs.Working.Once.{badFirst, refusalBefore}
+use Rattle.logs.proofs.Once.{some-records}
 use Rattle.names.specs.declared.Names.{Names}
 use Rattle.named.specs.Named.{badNames, brokenNamed}
 use Rattle.named.specs.declared.NamedRun.{NamedRun}
@@ -45,10 +46,6 @@ module _ (state : NamedRun) (log : List ℕ) where
   applied-first number (suc n) r h first =
       let e : applied state log (suc n) ≡ answered number state = applied-stays n (rw first r) ∙ first in
       rw (e, ne-eqb _ _ r)
-
-some-records : (log : List ℕ) → (length log ≡ 0 → ⊥) → 0 < recordCount log
-unfolding recordCount
-some-records log h = omega (arith, h)
 
 module _ (state : NamedRun) (log : List ℕ) where
   -- 12 of the first record

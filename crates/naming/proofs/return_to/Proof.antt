@@ -62,7 +62,9 @@ unfolding placeUnder
 returns-3 c =
     let start = c .before .before .before .before .before .before .before .before .before .before .before in
     let state = start .args .state in
-    let right = sym (c .before .before .before .before .before .before .before .before .before .before .broken-named .ensures) ∙ c .before .before .before .before .before .before .before .before .before .if1 .left in
+    let asked = c .before .before .before .before .before .before .before .before .before .before .broken-named in
+    let accepted = c .before .before .before .before .before .before .before .before .before .if1 in
+    let right = sym (asked .ensures) ∙ accepted .left in
     let long = length-of {A = Held} _ (state .names .entries) nameLimit (start .good .0 .1 .1 .1 .0 .1 .1 .1 .0 .1 .0 .1) in
     let slot = c .before .before .before .before .before .before .slot-of .ensures in
     let ready = ready-to-take state _ right long (λ e. c .before .before .before .before .if2 .left (slot ∙ e)) in
