@@ -1,4 +1,4 @@
-// The names that a run holds, by request 109: each a number of two bytes (request 110) and a place. An entry is found, put or taken out; entries past the names held are carried along unread.
+// The names that a run holds, by request 109: each a byte and a place. An entry is found, put or taken out; entries past the names held are carried along unread.
 ghost use Rattle.std.specs.Prelude.{◌≡◌, ◌≤◌};
 ghost use Rattle.names.specs.Names.{name_limit, no_held, no_names, held_in, slot_of, put, taken_out};
 ghost use Rattle.names.specs.Working.Ready.{ReadyToPut, ReadyToTake};
@@ -12,7 +12,7 @@ pub const NAME_LIMIT: usize = 16;
 #[repr(C)]
 #[derive(Drop)]
 pub struct Held {
-    pub name: u16,
+    pub name: u8,
     pub place: Place,
 }
 
@@ -48,7 +48,7 @@ impl Names {
 
 // The first entry of a name among those held, or their count where it is not held. Callers have asked 21 of the count, and so this asks for it: entries are read
 // up to it.
-pub fn slot_of(names: Names, name: u16) -> usize
+pub fn slot_of(names: Names, name: u8) -> usize
     requires { names.count ≤ name_limit }
     ensures { result ≡ slot_of name (held_in names) }
 {

@@ -23,7 +23,7 @@ fn answered(number: u64, state: NamedRun) -> NamedStepped
 }
 
 // The present place is held under this name, in place of one that it had.
-pub fn name(state: NamedRun, name: u16) -> NamedStepped
+pub fn name(state: NamedRun, name: u8) -> NamedStepped
     ensures { result ≡ name_of state name }
 {
     if broken_named(state) {
@@ -41,7 +41,7 @@ pub fn name(state: NamedRun, name: u16) -> NamedStepped
 }
 
 // The name is held no longer.
-pub fn drop_name(state: NamedRun, name: u16) -> NamedStepped
+pub fn drop_name(state: NamedRun, name: u8) -> NamedStepped
     ensures { result ≡ drop_of state name }
 {
     if broken_named(state) {
@@ -58,7 +58,7 @@ pub fn drop_name(state: NamedRun, name: u16) -> NamedStepped
 }
 
 // The run stands at the place held under this name. The names stay as they are.
-pub fn return_to(state: NamedRun, name: u16) -> NamedStepped
+pub fn return_to(state: NamedRun, name: u8) -> NamedStepped
     ensures { result ≡ return_of state name }
 {
     if broken_named(state) {

@@ -102,14 +102,14 @@ pub extern "C" fn pulvanor_follow(run: Run, log: &[u8]) -> Stepped
 
 // The present place of a run, under a name.
 #[unsafe(no_mangle)]
-pub extern "C" fn pulvanor_name(state: NamedRun, name: u16) -> NamedStepped
+pub extern "C" fn pulvanor_name(state: NamedRun, name: u8) -> NamedStepped
     ensures { result ≡ name_of state name }
 {
     naming::name(state, name)
 }
 
 #[unsafe(no_mangle)]
-pub extern "C" fn pulvanor_drop(state: NamedRun, name: u16) -> NamedStepped
+pub extern "C" fn pulvanor_drop(state: NamedRun, name: u8) -> NamedStepped
     ensures { result ≡ drop_of state name }
 {
     naming::drop_name(state, name)
@@ -117,7 +117,7 @@ pub extern "C" fn pulvanor_drop(state: NamedRun, name: u16) -> NamedStepped
 
 // Back to the place under a name.
 #[unsafe(no_mangle)]
-pub extern "C" fn pulvanor_return(state: NamedRun, name: u16) -> NamedStepped
+pub extern "C" fn pulvanor_return(state: NamedRun, name: u8) -> NamedStepped
     ensures { result ≡ return_of state name }
 {
     naming::return_to(state, name)
