@@ -1,4 +1,6 @@
 // What a planner gives: an answer, and marks in a buffer that the caller lends. Its promise, over any chain and any checks, stands in `specs`; every planner cites it.
+#![tactic(auto)]
+
 ghost use Rattle.std.specs.Prelude.{◌≡◌, ◌++◌, take, drop};
 ghost use Rattle.answers.specs.Working.Ready.{ReadyToCopy};
 

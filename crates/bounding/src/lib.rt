@@ -1,5 +1,7 @@
 // Fills the table of bounds for the chain that a table holds. Each bound is the least over its candidates, and at most NONE. The search calls `fill_bounds`, with a
 // table that is long enough and a chain whose numbers are bounded, so that no product wraps.
+#![tactic(auto)]
+
 ghost use Rattle.std.specs.Prelude.{◌≡◌, ◌+◌, set};
 ghost use Rattle.bounding.specs.Working.Stages.{Stage, PutParts, PartFilled, LeastTime, LeastRisk, LeastBase, StepPut, Looked, LeastAfter, OwnIs, StoppedIs, ReadyForStopped, ReadyToPutParts, ReadyForBounds, ReadyForPart, ReadyForStep, ReadyForBase, ReadyForRisk, ReadyForAhead, ReadyForAfter, ReadyForOwn, ReadyForAfters};
 ghost use Rattle.bounds.specs.Working.Bounds.{square_at, PlacesFit, BoundsOf};

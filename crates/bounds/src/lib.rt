@@ -1,6 +1,8 @@
 // The table of bounds on what is still to come. A column each, by position, has `time`, `risk` and `base`; then in a square of positions, `after` stands on and above the
 // diagonal and `part` below it. For n tasks the square has n + 1 rows of n + 1 entries. What they bound, and why copies may be left out by them, stands in the theory of
 // chains. The crates of the search call these, with a table that is long enough, positions within it and bounds that are capped, so that no product wraps.
+#![tactic(auto)]
+
 ghost use Rattle.std.specs.Prelude.{◌≡◌, get_or};
 ghost use Rattle.bounds.specs.Working.Bounds.{square_at, bounds_in, PlacesFit, ColumnsFit, SlopeIs, ReadyForBeyond, BeyondIs, ReadyForLow, LowIs, ReadyForDiskIn, DiskIs, ReadyForSince, SinceIs};
 

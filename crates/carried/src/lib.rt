@@ -1,4 +1,6 @@
 // What a run carries from event to event: its place and its last copies. The copies are looked for once, when the run is taken up.
+#![tactic(auto)]
+
 ghost use Rattle.std.specs.Prelude.{◌≡◌, cond, leb, ◌+◌, ◌≤◌};
 ghost use Rattle.units.specs.Limits.{task_limit};
 ghost use Rattle.rules.specs.Rules.{marks_in, passed_before};
@@ -10,14 +12,14 @@ use rules::positions::last_copy;
 use state::{Place, Run};
 
 // A copy: the position where it was saved, and the weight of the tasks up to there.
-#[derive(Drop)]
+#[derive(Clone, Copy)]
 pub struct Saved {
     pub position: usize,
     pub kept: u64,
 }
 
 // The place of a run, and the copies that it goes back to when a verification fails and when a node stops.
-#[derive(Drop)]
+#[derive(Clone, Copy)]
 pub struct Carried {
     pub place: Place,
     pub memory: Saved,

@@ -1,4 +1,6 @@
 // The time of a setting of marks over any chain of costs, and the theory of least settings. The code is S alone, from the factors of a stretch.
+#![tactic(auto)]
+
 ghost use Rattle.chain.specs.Working.Factors.{ReadyForStretch, StretchTime};
 
 // What a mark has at least: any mark is 1 or more, a memory copy 2 or more, a disk copy 3, the highest.
@@ -9,7 +11,7 @@ pub const MEMORY: u8 = 2;
 pub const DISK: u8 = 3;
 
 // What a stretch puts into S, worked out once: its first part, G(y_s) and G(y_s + y_f), which is 0 where the stretch is not allowed.
-#[derive(Drop)]
+#[derive(Clone, Copy)]
 pub struct Factors {
     pub work: u64,
     pub silent: u64,
@@ -17,7 +19,7 @@ pub struct Factors {
 }
 
 // What the last copies put into S: R_D' + M', and R_M'.
-#[derive(Drop)]
+#[derive(Clone, Copy)]
 pub struct Recoveries {
     pub disk: u64,
     pub memory: u64,

@@ -1,5 +1,7 @@
 // What a job charges: its costs at each position, and what a passed mark pays.
 // Each function of a position asks for a position, 0 to the most tasks, so that costs kept by task would be places of an array.
+#![tactic(auto)]
+
 ghost use Rattle.std.specs.Prelude.{cond, eqb, ◌≤◌};
 ghost use Rattle.units.specs.Limits.{task_limit};
 ghost use Rattle.costs.specs.Costs.{v_at, cm_at, cd_at, rd_at, rm_at, verify_paid, saves_paid};

@@ -1,4 +1,6 @@
 // What the programs read and write: a text by one call, the sheet on standard input, and marks or a number in an argument.
+#![tactic(auto)]
+
 ghost use Rattle.std.specs.Prelude.{◌≤◌, length};
 ghost use Rattle.io.specs.Counts.{IsPrefixLen};
 ghost use Rattle.output.specs.Texts.{line_room};

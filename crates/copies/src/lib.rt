@@ -3,6 +3,8 @@
 //
 // A row is filled forward: each position that can still matter offers its arrivals to the later ones, and the lesser time stays, with the earliest position before. Rows are
 // never too low, and exact where the bounds on what is still to come leave room for the plan.
+#![tactic(auto)]
+
 ghost use Rattle.std.specs.Prelude.{◌+◌, get_or};
 ghost use Rattle.units.specs.Limits.{none};
 ghost use Rattle.chain.specs.Working.Search.{to_memory, to_disk};

@@ -1,9 +1,11 @@
 // What a job puts into a chain, defined: its costs at each position, S of each stretch, the time of a setting, its energy by two powers, and dearer jobs.
+#![tactic(auto)]
+
 ghost use Rattle.std.specs.Prelude.{◌≡◌};
 ghost use Rattle.costs.specs.Energy.{plain};
 
 // The powers at which a centre bills energy (request 106): one for computing and verifying, one for saving and recovering.
-#[derive(Drop)]
+#[derive(Clone, Copy)]
 pub struct Powers {
     pub computing: u64,
     pub saving: u64,

@@ -1,5 +1,7 @@
 // Takes two powers, one for computing and verifying, one for saving and recovering, reads a job sheet from standard input and prints its plan by energy: the
 // least energy, then one digit a task; or the number of its refusal.
+#![tactic(auto)]
+
 ghost use Rattle.energy.specs.Prints.{SheetPrints};
 
 use costs::Powers;

@@ -1,4 +1,6 @@
 // The engine of request 104: the plan of a sheet of up to 8 tasks by the equations as printed, without a table, or the first refusal that holds.
+#![tactic(auto)]
+
 ghost use Rattle.costs.specs.Stretch.{chain_of};
 ghost use Rattle.answers.specs.Promise.{PlansChain};
 ghost use Rattle.planning.specs.Working.Ready.{ReadyForJob};

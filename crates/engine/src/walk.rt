@@ -12,7 +12,7 @@ use job::Job;
 use units::TASK_LIMIT;
 
 // A place of the walk: v has mark k, and the last copies before it are d and m.
-#[derive(Drop)]
+#[derive(Clone, Copy)]
 pub struct Place {
     pub k: u8,
     pub d: usize,

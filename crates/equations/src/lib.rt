@@ -6,6 +6,8 @@
 // Each gives its min and the earliest position that gives it, by which the marks are found. `mem` is the time E_mem(d1, m1), handed in as a number so that the
 // cycle is E_verif and E alone. A min is cut off at NONE, 2^34 ticks, and E over a stretch that is not allowed is NONE.
 // The engine calls these, for a job that has passed checks 3, 7 and 8.
+#![tactic(auto)]
+
 ghost use Rattle.std.specs.Prelude.{◌≡◌};
 ghost use Rattle.units.specs.Limits.{none};
 ghost use Rattle.costs.specs.Stretch.{chain_of};
@@ -21,7 +23,7 @@ use job::totals::weight_to;
 use units::{NONE, UNIT, rounded_up};
 
 // The least time of the positions offered so far, and the earliest that gives it.
-#[derive(Drop)]
+#[derive(Clone, Copy)]
 pub struct Least {
     pub time: u64,
     pub at: usize,

@@ -1,4 +1,6 @@
 // The four events of a run: where it stands after each, and its sums there.
+#![tactic(auto)]
+
 ghost use Rattle.std.specs.Prelude.{◌≡◌, cond, eqb};
 ghost use Rattle.events.specs.Working.Ready.{InRange, ReadyToGoBack, ReadyToMove};
 ghost use Rattle.events.specs.Working.After.{back_at, AfterDone, AfterPassed, AfterFailed, AfterStopped};
@@ -11,7 +13,7 @@ use rules::positions::{mark_at, weight_at};
 use state::{Place, Sums};
 
 // What happens in a run; Stopped carries its lost ticks.
-#[derive(Drop)]
+#[derive(Clone, Copy)]
 pub enum Event {
     Done,
     Passed,

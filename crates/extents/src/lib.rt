@@ -1,4 +1,6 @@
 // Where the sections of a sheet lie: check 5, and request 105's 28. Each runs over the sections in their order.
+#![tactic(auto)]
+
 ghost use Rattle.std.specs.Prelude.{◌≡◌, ◌<◌, ◌^◌};
 ghost use Rattle.extents.specs.Extents.{end_before, bad_extent, bad_extents, contiguous};
 

@@ -1,4 +1,6 @@
 // The factors of a stretch of a job, worked out once for all its last copies and times: growth sums, and its work in time or in energy.
+#![tactic(auto)]
+
 ghost use Rattle.std.specs.Prelude.{◌≡◌};
 ghost use Rattle.costs.specs.Working.Factors.{factors_of, energy_factors_of, ReadyForFactors, ReadyForEnergy, FactorsIfAllowed};
 

@@ -1,4 +1,6 @@
 // Bytes and multi-byte fields of a part of a sheet or of a log, read and written. A byte past the end reads as 0, so that no check depends on one before it.
+#![tactic(auto)]
+
 ghost use Rattle.std.specs.Prelude.{◌≡◌, ◌+◌, ◌*◌, ◌<◌, ◌≤◌, ◌^◌, length};
 ghost use Rattle.std.proofs.lemmas.List.Edits.{sets};
 ghost use Rattle.fields.specs.Bytes.{byte_at, field_at, field_length, Ranged};

@@ -1,5 +1,7 @@
 // Fills the search's table with the chain of a job in energy, which by the powers 1 and 1 is its time: the factors of each stretch that is allowed, a near end
 // and a far end, then the costs of each position.
+#![tactic(auto)]
+
 ghost use Rattle.std.specs.Prelude.{◌+◌};
 ghost use Rattle.filling.specs.Working.Fill.{PairsTo, TableTo, TableOf, ReadyForCosts, ReadyToFill};
 

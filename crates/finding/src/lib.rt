@@ -1,4 +1,6 @@
 // The least time of all tasks, and the disk row that has it. The search calls `find`, with the bounds of the chain that the table holds.
+#![tactic(auto)]
+
 ghost use Rattle.units.specs.Limits.{none};
 ghost use Rattle.chain.specs.Working.Search.{to_disk};
 ghost use Rattle.copies.specs.Working.Copies.{Cut, LiveDisk};
@@ -14,7 +16,7 @@ mod limit;
 use limit::first_limit;
 
 // A disk row: least times, and the earliest positions before.
-#[derive(Drop)]
+#[derive(Clone, Copy)]
 pub struct Disks {
     pub time: [u64; POSITIONS],
     pub backs: [usize; POSITIONS],

@@ -1,6 +1,8 @@
 // Follows a run: the marks as digits in the first argument, the name of a log file in the second, the job sheet on standard input. Then words in pairs, in turn:
 // `name`, `drop` and `return` with the number of a name, or `log` with the name of a further log file.
 // Prints where the run stands, what it has counted and the names that it holds, or the number of the first refusal.
+#![tactic(auto)]
+
 ghost use Rattle.std.specs.Prelude.{◌≡◌, ◌≤◌, length};
 ghost use Rattle.output.specs.Words.{endless_words, log_word};
 ghost use Rattle.output.specs.Files.{FileTold};

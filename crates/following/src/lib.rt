@@ -1,4 +1,6 @@
 // Following a run of document 01 from event to event, with refusals 22 to 25. The state has been tested for 21; its weights and marks are lent.
+#![tactic(auto)]
+
 ghost use Rattle.std.specs.Prelude.{◌≡◌, not, eqb};
 ghost use Rattle.following.specs.Run.{answered, out_of_turn};
 ghost use Rattle.following.specs.Working.Lent.{lent_run, OverWeight, carrying, arrived, ReadyForEvent, Moves};
@@ -14,14 +16,14 @@ use state::{Place, Run};
 
 // The answer to a log: 0 and the next state, or the refusal and the state given.
 #[repr(C)]
-#[derive(Drop)]
+#[derive(Clone, Copy)]
 pub struct Stepped {
     pub number: u64,
     pub run: Run,
 }
 
 // The answer to an event: 0 and what is carried on, or the refusal.
-#[derive(Drop)]
+#[derive(Clone, Copy)]
 pub struct Moved {
     pub number: u64,
     pub carried: Carried,

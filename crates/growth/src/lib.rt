@@ -1,4 +1,6 @@
 // The growth sums G and H of document 01 with request 103, in units of 2^-24. They know nothing of tasks or marks.
+#![tactic(auto)]
+
 ghost use Rattle.std.specs.Prelude.{◌≡◌, ◌≤◌};
 ghost use Rattle.growth.specs.Growth;
 ghost use Rattle.growth.specs.Working.Divide.{ReadyToDivide};
@@ -26,7 +28,7 @@ fn ceil_div(n: u64, d: u64) -> u64
 }
 
 // A sum under way: the term k, and the terms 0 to k added, in units of 2^-30.
-#[derive(Drop)]
+#[derive(Clone, Copy)]
 struct Partial {
     k: u64,
     term: u64,

@@ -1,5 +1,7 @@
 // The header of a job sheet: its form, its task count, where its sections lie, and checks 1 to 4. What a form decides is asked of the sheet: the limit of the
 // task count, how many sections there are, and where the header ends.
+#![tactic(auto)]
+
 ghost use Rattle.std.specs.Prelude.{◌≡◌, ◌<◌, ◌^◌};
 ghost use Rattle.refusals.specs.Refusals.{first};
 ghost use Rattle.fields.specs.Bytes.{Ranged};

@@ -1,4 +1,6 @@
 // The values that a job sheet gives, what document 01 asks of them (checks 3, 7 and 8), and which stretches are allowed.
+#![tactic(auto)]
+
 ghost use Rattle.std.specs.Prelude.{◌≡◌};
 ghost use Rattle.job.specs.Job.{zero_job};
 
@@ -10,7 +12,7 @@ use units::TASK_LIMIT;
 
 // The platform section: the two rates, and the costs C_D, C_M, V, R_D and R_M.
 #[repr(C)]
-#[derive(Drop)]
+#[derive(Clone, Copy)]
 pub struct Platform {
     pub failstop: u32,
     pub silent: u32,
@@ -23,7 +25,7 @@ pub struct Platform {
 
 // The values of a sheet; weights past the last task are 0.
 #[repr(C)]
-#[derive(Drop)]
+#[derive(Clone, Copy)]
 pub struct Job {
     pub tasks: usize,
     pub platform: Platform,

@@ -1,5 +1,7 @@
 // Joins the job sheets in the files that the two arguments name, and writes the joined sheet to standard output.
 // The number of a refusal, and what cannot be read, have their line on standard error.
+#![tactic(auto)]
+
 ghost use Rattle.std.specs.Prelude.{◌≡◌, ◌≤◌, length};
 ghost use Rattle.output.specs.Texts.{line_room};
 ghost use Rattle.output.specs.Working.Ready.{ReadyForComplaint};

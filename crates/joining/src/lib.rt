@@ -1,5 +1,7 @@
 // Two sheets joined to one: the first sheet's weights, then the second's, with one platform section, written to a buffer that the caller lends.
 // Nothing is said of the least time of the whole from those of the parts: a recovery at the seam has a cost.
+#![tactic(auto)]
+
 ghost use Rattle.std.specs.Prelude.{◌≡◌, length};
 ghost use Rattle.refusals.specs.Refusals.{first};
 ghost use Rattle.sheet.specs.Reading.{job_of};
@@ -18,7 +20,7 @@ use writing::{PLATFORM_FIELDS, fields_of, put_sheet, sheet_length};
 
 // The answer of a join: 0 and how many bytes of the buffer are the sheet, or the number of its refusal and 0.
 #[repr(C)]
-#[derive(Drop)]
+#[derive(Clone, Copy)]
 pub struct Joined {
     pub number: u64,
     pub length: usize,

@@ -1,4 +1,6 @@
 // The kinds of a sheet's sections: check 6, and which section is of a kind. Each runs over the sections in their order.
+#![tactic(auto)]
+
 ghost use Rattle.std.specs.Prelude.{◌≡◌, ◌<◌, ◌^◌};
 ghost use Rattle.fields.specs.Bytes.{Ranged};
 ghost use Rattle.kinds.specs.Kinds.{kind, has_kind, index_of, length_of, counted, one_of_each, wrong_length, bad_kinds};

@@ -1,4 +1,6 @@
 // The layout of a sheet: checks 1 to 6 in their order, with 28 after 5.
+#![tactic(auto)]
+
 ghost use Rattle.std.specs.Prelude.{◌≡◌};
 ghost use Rattle.refusals.specs.Refusals.{first};
 ghost use Rattle.layout.specs.Layout.{section_conditions, layout_conditions};

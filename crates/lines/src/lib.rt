@@ -1,5 +1,7 @@
 // Lines of text, put into a lent buffer from byte `at` on; each function answers where its text ends. Nothing here reads or prints. Each asks for room: only
 // `output` calls these, and has it.
+#![tactic(auto)]
+
 ghost use Rattle.numerals.specs.Decimal.{decimal};
 ghost use Rattle.std.specs.Prelude.{[], ◌∷◌};
 ghost use Rattle.lines.specs.Lines.{words_line, number_line, mark_digits, marks_line, Room, Puts};

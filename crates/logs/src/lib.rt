@@ -1,4 +1,6 @@
 // The log of a run: records of 5 bytes, read and applied in turn. 21 is tested once, before the first event; an accepted event leaves a state that it accepts.
+#![tactic(auto)]
+
 ghost use Rattle.std.specs.Prelude.{◌≡◌, ◌<◌, false};
 ghost use Rattle.rules.specs.Rules.{broken};
 ghost use Rattle.following.specs.Working.Lent.{lent_run, ReadyForEvent, moved};

@@ -1,4 +1,6 @@
 // The marks of a setting: what each pays when passed, and checks 9 and 10 of lists that a user supplies.
+#![tactic(auto)]
+
 ghost use Rattle.std.specs.Prelude.{◌≡◌, false, ◌<◌};
 ghost use Rattle.refusals.specs.Refusals.{first};
 ghost use Rattle.job.specs.Working.Sound.{Sound};
@@ -12,7 +14,7 @@ use job::stretch::is_allowed;
 use refusals::{BAD_MARKS, BAD_STRETCH};
 
 // Which of V, C_M and C_D a passed mark pays.
-#[derive(Drop)]
+#[derive(Clone, Copy)]
 pub struct Pays {
     pub v: bool,
     pub cm: bool,

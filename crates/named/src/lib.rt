@@ -1,4 +1,6 @@
 // A run with the names that it holds, by request 109, and what 21 asks of it.
+#![tactic(auto)]
+
 ghost use Rattle.std.specs.Prelude.{◌≡◌, ◌≤◌};
 ghost use Rattle.units.specs.Limits.{task_limit};
 ghost use Rattle.rules.specs.Rules.{marks_in, broken_place};
@@ -11,7 +13,7 @@ use rules::{broken, broken_place};
 use state::{Place, Run};
 
 #[repr(C)]
-#[derive(Drop)]
+#[derive(Clone, Copy)]
 pub struct NamedRun {
     pub run: Run,
     pub names: Names,

@@ -1,4 +1,6 @@
 // The names that a run holds, by request 109: each a byte and a place. An entry is found, put or taken out; entries past the names held are carried along unread.
+#![tactic(auto)]
+
 ghost use Rattle.std.specs.Prelude.{◌≡◌, ◌≤◌};
 ghost use Rattle.names.specs.Names.{name_limit, no_held, no_names, held_in, slot_of, put, taken_out};
 ghost use Rattle.names.specs.Working.Ready.{ReadyToPut, ReadyToTake};
@@ -10,7 +12,7 @@ pub const NAME_LIMIT: usize = 16;
 
 // A name and its place.
 #[repr(C)]
-#[derive(Drop)]
+#[derive(Clone, Copy)]
 pub struct Held {
     pub name: u8,
     pub place: Place,
@@ -18,7 +20,7 @@ pub struct Held {
 
 // The names held are the first entries, in the order of their first naming.
 #[repr(C)]
-#[derive(Drop)]
+#[derive(Clone, Copy)]
 pub struct Names {
     pub count: usize,
     pub entries: [Held; NAME_LIMIT],

@@ -1,4 +1,6 @@
 // Calls on a run with names, by request 109: name the present place, drop a name, return to a name, follow a log. 21 comes before all but 12 of a log's first record.
+#![tactic(auto)]
+
 ghost use Rattle.std.specs.Prelude.{◌≡◌};
 ghost use Rattle.naming.specs.Calls.{answered, name_of, drop_of, return_of};
 ghost use Rattle.naming.specs.Log.{log_of};
@@ -10,7 +12,7 @@ use refusals::{ACCEPTED, BROKEN, NAMES_FULL, NOT_HELD};
 
 // The answer to a call: 0 and the next state, or the refusal and the state given.
 #[repr(C)]
-#[derive(Drop)]
+#[derive(Clone, Copy)]
 pub struct NamedStepped {
     pub number: u64,
     pub state: NamedRun,

@@ -1,4 +1,6 @@
 // Digits and numbers: the marks and the number that a text gives. Nothing here reads or prints.
+#![tactic(auto)]
+
 ghost use Rattle.std.specs.Prelude.{◌≡◌, true, false, not, ◌+◌, ◌*◌, ◌<◌, length};
 ghost use Rattle.lists.specs.Lists.{some};
 ghost use Rattle.numerals.specs.Digits.{base, no_digit, MarksOf, number_to, in_word, NumberOf};
@@ -55,7 +57,7 @@ pub fn to_marks(text: &mut [u8]) -> bool
 }
 
 // A number read from a text; it failed where the text is none.
-#[derive(Drop)]
+#[derive(Clone, Copy)]
 pub struct Number {
     pub value: u64,
     pub failed: bool,

@@ -1,5 +1,7 @@
 // The texts that the programs print, each made whole in its room, so that one call writes it. Nothing here reads or prints. What is asked, of short words and of
 // a task count, the programs meet: their words are fixed.
+#![tactic(auto)]
+
 mod entries;
 mod files;
 
@@ -41,7 +43,7 @@ pub const TEXT_ROOM: usize = RUN_LINES * LINE_ROOM
     + PATH_ROOM;
 
 // A text: the first bytes of its room, and how many they are.
-#[derive(Drop)]
+#[derive(Clone, Copy)]
 pub struct Text {
     pub bytes: [u8; TEXT_ROOM],
     pub length: usize,

@@ -1,4 +1,6 @@
 // Reads a job sheet from standard input and prints its plan: the least time, then one digit a task; or the number of its refusal.
+#![tactic(auto)]
+
 ghost use Rattle.plan.specs.Prints.{SheetPrints};
 
 use header::{SHEET_ROOM, task_count};

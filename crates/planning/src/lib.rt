@@ -1,4 +1,6 @@
 // The plan of a job sheet: the cheapest marks, written to a buffer that the caller lends, and their time, or the first refusal that holds.
+#![tactic(auto)]
+
 ghost use Rattle.costs.specs.Energy.{energy_chain};
 ghost use Rattle.planning.specs.Promise.{Plans};
 ghost use Rattle.answers.specs.Promise.{PlansChain};

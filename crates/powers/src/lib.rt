@@ -1,4 +1,6 @@
 // The powers that a plan by energy takes (request 106), and 29: a power out of its range, or a product that passes the limit of costs.
+#![tactic(auto)]
+
 ghost use Rattle.std.specs.Prelude.{◌≡◌, ◌≤◌};
 ghost use Rattle.units.specs.Limits.{task_limit};
 ghost use Rattle.powers.specs.Powers.{most_power, out_of_range, passes, bad_computing, saving_passes, bad_saving, bad_powers};

@@ -1,4 +1,6 @@
 // Prints the time of the marks, given as digits in the first argument, under the job sheet on standard input; or the number of their refusal.
+#![tactic(auto)]
+
 ghost use Rattle.pricing.specs.Price.{price_of};
 ghost use Rattle.output.specs.Texts.{price_text, Holds};
 

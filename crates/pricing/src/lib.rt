@@ -1,5 +1,7 @@
 // The price of a setting: D(n) of document 01 for a sheet and the marks that a user supplies, or the first refusal that holds.
 // The tasks are passed once, carrying what the equations need: the work grows as n, and the room does not grow.
+#![tactic(auto)]
+
 ghost use Rattle.std.specs.Prelude.{◌≡◌, min};
 ghost use Rattle.units.specs.Limits.{none};
 ghost use Rattle.costs.specs.Stretch.{time_of};

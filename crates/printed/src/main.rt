@@ -1,5 +1,7 @@
 // Reads a job sheet of up to 8 tasks from standard input and prints its plan by the equations as printed: the least time, then one digit a task; or the number
 // of its refusal.
+#![tactic(auto)]
+
 ghost use Rattle.printed.specs.Prints.{SheetPrints};
 
 use header::{SHEET_ROOM, task_count};

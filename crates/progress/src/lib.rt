@@ -1,4 +1,6 @@
 // What a price carries along the tasks of a setting, and one mark's step of it by the equations of document 01.
+#![tactic(auto)]
+
 ghost use Rattle.progress.specs.Working.Progress.{ReadyForArrival, ReadyForMark, Arrived, Passed};
 
 use chain::{Recoveries, stretch_time};
@@ -8,7 +10,7 @@ use job::Job;
 use marks::payments;
 
 // What is carried from one position to the next: the weight since the last mark, the last memory and disk copies, Q', M' and D(d).
-#[derive(Drop)]
+#[derive(Clone, Copy)]
 pub struct Progress {
     pub weight: u64,
     pub m: usize,

@@ -1,4 +1,6 @@
 // The library for programs in other languages: a thin layer over the crates below, whose definitions its contracts cite.
+#![tactic(auto)]
+
 ghost use Rattle.std.specs.Prelude.{◌≡◌};
 ghost use Rattle.growth.specs.Growth;
 ghost use Rattle.sheet.specs.Lookup.{found_of};

@@ -1,5 +1,7 @@
 // The numbers of document 01's refusals and of the requests', the number of a call that is accepted, and the answer that has a number and a time.
 // The conditions stand in the crates that test them.
+#![tactic(auto)]
+
 ghost use Rattle.std.specs.Prelude.{◌≡◌};
 ghost use Rattle.refusals.specs.Answers.{refused, accepted};
 
@@ -63,7 +65,7 @@ pub const NAMES_FULL: u64 = 31;
 
 // The answer to a call: number 0 and the time, or the number of its refusal and time 0. A plan by energy has its energy in place of the time.
 #[repr(C)]
-#[derive(Drop)]
+#[derive(Clone, Copy)]
 pub struct Answer {
     pub number: u64,
     pub time: u64,

@@ -1,4 +1,6 @@
 // What document 01 asks of the state of a run: refusals 21 and 22, and the limit of the sums that 21 and 25 test.
+#![tactic(auto)]
+
 ghost use Rattle.std.specs.Prelude.{◌≡◌, ◌≤◌};
 ghost use Rattle.refusals.specs.Refusals.{first};
 ghost use Rattle.units.specs.Limits.{task_limit};

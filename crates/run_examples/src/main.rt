@@ -1,4 +1,6 @@
 // Runs the examples of document 01 that are not starred, and prints what each gives; the starred ones are proved (`starred_examples`, in the crate `examples`).
+#![tactic(auto)]
+
 ghost use Rattle.std.specs.Prelude.{◌≤◌, length};
 ghost use Rattle.output.specs.Texts.{longest_word};
 ghost use Rattle.io.specs.Counts.{IsPrefixLen};

@@ -14,6 +14,8 @@
 //     table ── verifications ── bounds ── bounding ── copies ── finding ── walk
 //     chain    rows of Q        what is   bounds      rows of    plan's     marks
 //                               to come   filled      M and D    time
+#![tactic(auto)]
+
 ghost use Rattle.table.specs.Working.Table.{chain_in};
 ghost use Rattle.answers.specs.Promise.{PlansChain};
 ghost use Rattle.search.specs.Working.Ready.{ReadyForChain};

@@ -1,4 +1,6 @@
 // The job sheet of document 01: lookup by kind, and reading with checks 1 to 8.
+#![tactic(auto)]
+
 pub mod lookup;
 pub mod read;
 
@@ -6,7 +8,7 @@ use job::{Job, Platform};
 
 // What a lookup finds: 0 and where the stretch lies, or the number of its refusal and the empty stretch at byte 0.
 #[repr(C)]
-#[derive(Drop)]
+#[derive(Clone, Copy)]
 pub struct Found {
     pub number: u64,
     pub start: usize,
@@ -14,7 +16,7 @@ pub struct Found {
 }
 
 // What reading gives of an accepted sheet, in numbers alone: the weights section starts at byte `weights`.
-#[derive(Drop)]
+#[derive(Clone, Copy)]
 pub struct Sheet {
     pub tasks: usize,
     pub platform: Platform,
@@ -22,14 +24,14 @@ pub struct Sheet {
 }
 
 // The answer of a reading that a caller takes apart: an enum holds no array, so the weights are told by where they start.
-#[derive(Drop)]
+#[derive(Clone, Copy)]
 pub enum Reading {
     Accepted(Sheet),
     Refused(u64),
 }
 
 // The answer of a reading with its weights: 0 and the values, or the number of the refusal and values that are all 0.
-#[derive(Drop)]
+#[derive(Clone, Copy)]
 pub struct JobReading {
     pub number: u64,
     pub job: Job,

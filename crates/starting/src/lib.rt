@@ -1,4 +1,6 @@
 // Starting a run of document 01: the fresh run, or the first refusal among 1 to 10.
+#![tactic(auto)]
+
 ghost use Rattle.std.specs.Prelude.{◌≡◌};
 ghost use Rattle.starting.specs.Start.{refused_start, start_of};
 
@@ -9,7 +11,7 @@ use state::Run;
 
 // The answer to a start: 0 and the fresh run, or the refusal and the state whose every field is 0.
 #[repr(C)]
-#[derive(Drop)]
+#[derive(Clone, Copy)]
 pub struct Started {
     pub number: u64,
     pub run: Run,

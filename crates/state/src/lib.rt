@@ -1,4 +1,6 @@
 // The state of a run: its values and marks, where it stands, and its five sums; the fresh run, and the state with every field 0.
+#![tactic(auto)]
+
 ghost use Rattle.std.specs.Prelude.{◌≡◌};
 ghost use Rattle.state.specs.State.{beginning, cleared, fresh, zero_run};
 ghost use Rattle.state.specs.Working.Entries.{Entries};
@@ -8,7 +10,7 @@ use units::TASK_LIMIT;
 
 // The five sums, in ticks.
 #[repr(C)]
-#[derive(Drop)]
+#[derive(Clone, Copy)]
 pub struct Sums {
     pub kept: u64,
     pub redone: u64,
@@ -19,7 +21,7 @@ pub struct Sums {
 
 // Where a run stands, whether a verification is awaited there (not 0) or a task runs (0), and its sums.
 #[repr(C)]
-#[derive(Drop)]
+#[derive(Clone, Copy)]
 pub struct Place {
     pub position: usize,
     pub awaiting: u8,
@@ -28,7 +30,7 @@ pub struct Place {
 
 // The state of a run. Entries of weights and marks past the last task are carried along unread.
 #[repr(C)]
-#[derive(Drop)]
+#[derive(Clone, Copy)]
 pub struct Run {
     pub job: Job,
     pub marks: [u8; TASK_LIMIT],

@@ -1,5 +1,7 @@
 // The table that holds a chain: the costs of each position, and the factors of each pair of ends u < v. The crates that fill and search it call these, with a table
 // that is long enough for the positions that they name. The pairs of a far end stand together, so that the table of a short chain is the front of a longer one's.
+#![tactic(auto)]
+
 ghost use Rattle.std.specs.Prelude.{◌≡◌, ◌+◌, ◌<◌, ◌≤◌, length, take, drop, set};
 ghost use Rattle.units.specs.Limits.{positions};
 ghost use Rattle.table.specs.Working.Table.{Widened, first_start, column, entry_of, put_pair, IsPair, InTable, PairFits, ReadyForPair, InColumn, ReadyForColumn, ReadyForRecoveries, RecoveriesIn, ReadyForFirsts, FirstIs, FirstsPut};

@@ -1,4 +1,6 @@
 // Numbers in units of 2^-24, rounding up to whole ticks, and the limits of document 01: the longest time, the most tasks.
+#![tactic(auto)]
+
 ghost use Rattle.std.specs.Prelude.{◌≡◌, ◌+◌, ◌-◌, ◌≤◌, ◌^◌, min};
 ghost use Rattle.units.specs.Unit.{unit, up};
 

@@ -1,5 +1,7 @@
 // Rows of verifications: the least Q(v) from a memory copy, over the mark u before v. Each entry is exact, the least over the positions before it. The bounds, the rows of
 // copies, the first limit and the walk call these, with a table whose numbers are bounded, so that no product wraps.
+#![tactic(auto)]
+
 ghost use Rattle.std.specs.Prelude.{◌≡◌, ◌+◌, max};
 ghost use Rattle.units.specs.Limits.{none};
 ghost use Rattle.chain.specs.Working.Search.{reach, back};

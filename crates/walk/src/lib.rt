@@ -1,6 +1,8 @@
 // The marks of the plan, by walking back from the last task over the earliest positions before. The disk row is what the search has found; the rows of the
 // other levels are filled anew, cut where the plan leaves no room, from each disk copy of the plan and each memory copy of it. The search calls `plan_marks`, with the
 // row that `find` gave and a least time below none: there are no other marks to find.
+#![tactic(auto)]
+
 ghost use Rattle.units.specs.Limits.{none};
 ghost use Rattle.chain.specs.Time.{disk};
 ghost use Rattle.chain.specs.Working.Search.{back_d};
@@ -16,7 +18,7 @@ use verifications::{check_before, verification_row};
 
 // A step of the walk: v has mark k, the last copies before it are d and m. `times` and `copies` are the memory row from d, `checks` the row of verifications
 // from m.
-#[derive(Drop)]
+#[derive(Clone, Copy)]
 pub struct Walk {
     pub k: u8,
     pub d: usize,

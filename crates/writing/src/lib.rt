@@ -1,5 +1,7 @@
 // A sheet of form 1, written to a lent buffer: a run of stores from each place on. A join alone calls this, for two task counts that have passed check 3; it
 // writes once it knows that they are few enough together and that the buffer holds the sheet.
+#![tactic(auto)]
+
 ghost use Rattle.std.specs.Prelude.{◌≡◌, ◌∷◌, ◌++◌, ◌+◌, ◌*◌, ◌≤◌, length};
 ghost use Rattle.std.proofs.lemmas.List.Edits.{sets};
 ghost use Rattle.units.specs.Limits.{task_limit};

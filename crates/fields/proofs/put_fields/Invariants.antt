@@ -1,0 +1,19 @@
+-- `fields::put_fields` meets its contract. The loop's invariant: the fields of the values passed are stored. The measure is what is left of the values.
+-- Assumes nothing.
+use Prim.Native.Nat.{ℕ, ◌-◌, ◌≤◌}
+use mathlib.Core.Path.{◌≡◌}
+use mathlib.Core.List.{List}
+use lib.ListN.{length, take}
+use lib.Seq.{sets}
+use Rattle.fields.specs.Written.{fields}
+use Rattle.fields.proofs.put_fields.Given as goal
+
+pub record Stored (before : List ℕ) (at : ℕ) (values buffer : List ℕ) (j : ℕ) : Type 0 where
+  pub within : j ≤ length values
+  pub stored : buffer ≡ sets before at (fields (take j values))
+
+abbrev pub invariant-loop-j : goal.invariant-loop-j
+invariant-loop-j l = Stored l.initial.buffer l.at l.values l.buffer l.j
+
+abbrev pub decreases-loop-j : goal.decreases-loop-j
+decreases-loop-j l = length l.values - l.j
