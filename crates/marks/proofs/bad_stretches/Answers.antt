@@ -7,7 +7,7 @@ use native.Mathlib.Omega.{arith}
 use borrow.Author.Rules.{rules}
 use Rattle.marks.proofs.Stretches.{walked_none, walked_range, walked_heavier, walked_lighter, walked_plain, walked_all, marks_length}
 use Rattle.marks.proofs.bad_stretches.Goals as goal
-use Rattle.marks.proofs.bad_stretches.Goals.{then-marks-j-ne0, else-marks-j-ne0}
+use Rattle.marks.proofs.bad_stretches.Goals.{then-marks-j-ne0+then-heaviest-weight, then-marks-j-ne0+else-heaviest-weight, else-marks-j-ne0}
 
 pub loop-j-init : goal.loop-j-init
 loop-j-init c = record { to = search rules; walked = walked_none _ _ }
@@ -40,9 +40,20 @@ loop-j-preserved c =
     let loop = c.loop-j in
     let walked = loop.invariant.walked in
     let range = walked_range _ _ _ _ _ walked pre.sound c.loop-j-test.true in
-    elim c.if-marks-j-ne0.branch [ then-marks-j-ne0 w ↦ record { to = omega arith; walked = rw (w.2, w.3) (walked_heavier _ _ _ _ _ walked (pos_of_ne-zero w.if-marks-j-ne0.true) range w.1.taken) })
-    (⊎_elim
-    (λ w. record { to = omega arith; walked = rw (w.2, w.3) (walked_lighter _ _ _ _ _ walked (pos_of_ne-zero w.if-marks-j-ne0.true) w.1.left) } | else-marks-j-ne0 w ↦ record { to = omega arith; walked = rw (w.1, w.2) (walked_plain _ _ _ _ _ walked w.if-marks-j-ne0.false) }) ]
+    elim c.if-marks-j-ne0.branch [
+      then-marks-j-ne0+then-heaviest-weight w ↦ record {
+        to = omega arith;
+        walked = rw (w.heaviest-is, w.weight-is) (walked_heavier _ _ _ _ _ walked (pos_of_ne-zero w.if-marks-j-ne0.true) range w.if-heaviest-weight.true);
+      }
+    | then-marks-j-ne0+else-heaviest-weight w ↦ record {
+        to = omega arith;
+        walked = rw (w.heaviest-is, w.weight-is) (walked_lighter _ _ _ _ _ walked (pos_of_ne-zero w.if-marks-j-ne0.true) w.if-heaviest-weight.false);
+      }
+    | else-marks-j-ne0 w ↦ record {
+        to = omega arith;
+        walked = rw (w.heaviest-is, w.weight-is) (walked_plain _ _ _ _ _ walked w.if-marks-j-ne0.false);
+      }
+    ]
 
 pub is_allowed-requires : goal.is_allowed-requires
 is_allowed-requires c = c.loop-j.invariant.walked.bounded
