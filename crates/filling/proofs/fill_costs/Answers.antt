@@ -1,0 +1,160 @@
+use Rattle.filling.proofs.Fills.{table_first, table_more}
+use mathlib.Core.Path.{refl, ◌≡◌, ◌∙◌}
+use Prim.Native.Nat.{◌+◌, ◌-◌}
+use native.Mathlib.Omega.{arith}
+use Rattle.costs.proofs.Ranges.{rm_energy, rd_energy, cm_energy, cd_energy}
+use Rattle.filling.proofs.fill_costs.Goals as goal
+
+pub loop-v-init : goal.loop-v-init
+loop-v-init c =
+    let pre = c.requires in
+    record { within = omega arith; table = table_first _ _ _ pre.filled; same_long = refl }
+
+pub cm_at-requires : goal.cm_at-requires
+cm_at-requires c =
+    let pre = c.requires in
+    omega (arith, pre.sound.few_tasks)
+
+pub overflow_mul-cm : goal.overflow_mul-cm
+overflow_mul-cm c =
+    let pre = c.requires in
+    let loop = c.loop-v in
+    let cm-at = c.cm_at in
+    record { fits = rw cm-at.ensures.value (omega (arith, cm_energy _ _ pre.products loop.v)) }
+
+pub cd_at-requires : goal.cd_at-requires
+cd_at-requires c =
+    let pre = c.requires in
+    omega (arith, pre.sound.few_tasks)
+
+pub overflow_mul-cd : goal.overflow_mul-cd
+overflow_mul-cd c =
+    let pre = c.requires in
+    let loop = c.loop-v in
+    let cd-at = c.cd_at in
+    record { fits = rw cd-at.ensures.value (omega (arith, cd_energy _ _ pre.products loop.v)) }
+
+pub rd_at-requires : goal.rd_at-requires
+rd_at-requires c =
+    let pre = c.requires in
+    omega (arith, pre.sound.few_tasks)
+
+pub overflow_mul-rd : goal.overflow_mul-rd
+overflow_mul-rd c =
+    let pre = c.requires in
+    let loop = c.loop-v in
+    let rd-at = c.rd_at in
+    record { fits = rw rd-at.ensures.value (omega (arith, rd_energy _ _ pre.products loop.v)) }
+
+pub rm_at-requires : goal.rm_at-requires
+rm_at-requires c =
+    let pre = c.requires in
+    omega (arith, pre.sound.few_tasks)
+
+pub overflow_mul-rm : goal.overflow_mul-rm
+overflow_mul-rm c =
+    let pre = c.requires in
+    let loop = c.loop-v in
+    let rm-at = c.rm_at in
+    record { fits = rw rm-at.ensures.value (omega (arith, rm_energy _ _ pre.products loop.v)) }
+
+pub put_in_column-requires : goal.put_in_column-requires
+put_in_column-requires c =
+    let pre = c.requires in
+    let loop = c.loop-v in
+    let cm-at = c.cm_at in
+    record {
+      place = record { long = omega (arith, loop.invariant.table.long); few = omega (arith, pre.sound.few_tasks) };
+      range = rw cm-at.ensures.value (omega (arith, cm_energy _ _ pre.products loop.v));
+    }
+
+pub put_in_column-requires-in-loop-v : goal.put_in_column-requires-in-loop-v
+put_in_column-requires-in-loop-v c =
+    let pre = c.requires in
+    let loop = c.loop-v in
+    let cd-at = c.cd_at in
+    let t = c.t-1 in
+    record {
+      place = record { long = omega (arith, loop.invariant.table.long, t.given); few = omega (arith, pre.sound.few_tasks) };
+      range = rw cd-at.ensures.value (omega (arith, cd_energy _ _ pre.products loop.v));
+    }
+
+pub put_in_column-requires-in-loop-v-2 : goal.put_in_column-requires-in-loop-v-2
+put_in_column-requires-in-loop-v-2 c =
+    let pre = c.requires in
+    let loop = c.loop-v in
+    let rd-at = c.rd_at in
+    let t = c.t-1 in
+    let t2 = c.t-in-loop-v-1 in
+    record {
+      place = record { long = omega (arith, loop.invariant.table.long, t.given, t2.given); few = omega (arith, pre.sound.few_tasks) };
+      range = rw rd-at.ensures.value (omega (arith, rd_energy _ _ pre.products loop.v));
+    }
+
+pub put_in_column-requires-in-loop-v-3 : goal.put_in_column-requires-in-loop-v-3
+put_in_column-requires-in-loop-v-3 c =
+    let pre = c.requires in
+    let loop = c.loop-v in
+    let rm-at = c.rm_at in
+    let t = c.t-1 in
+    let t2 = c.t-in-loop-v-1 in
+    let t3 = c.t-in-loop-v-2-1 in
+    record {
+      place = record { long = omega (arith, loop.invariant.table.long, t.given, t2.given, t3.given); few = omega (arith, pre.sound.few_tasks) };
+      range = rw rm-at.ensures.value (omega (arith, rm_energy _ _ pre.products loop.v));
+    }
+
+pub overflow_add-v : goal.overflow_add-v
+overflow_add-v c =
+    let pre = c.requires in
+    omega (arith, pre.sound.few_tasks)
+
+pub loop-v-smaller : goal.loop-v-smaller
+loop-v-smaller c = omega arith
+
+pub loop-v-preserved : goal.loop-v-preserved
+loop-v-preserved c =
+    let loop-test = c.loop-v-test in
+    let args = c.args in
+    let loop = c.loop-v in
+    let pre = c.requires in
+    let cm-at = c.cm_at in
+    let cd-at = c.cd_at in
+    let rd-at = c.rd_at in
+    let rm-at = c.rm_at in
+    let put-in-column = c.put_in_column in
+    let put-in-column2 = c.put_in_column-in-loop-v in
+    let put-in-column3 = c.put_in_column-in-loop-v-2 in
+    let put-in-column4 = c.put_in_column-in-loop-v-3 in
+    let t4 = c.t-in-loop-v-3-1 in
+    let t3 = c.t-in-loop-v-2-1 in
+    let t2 = c.t-in-loop-v-1 in
+    let t = c.t-1 in
+    let table = table_more args.powers args.job loop.v loop.t loop.invariant.table (omega (arith, pre.sound.few_tasks)) (omega (arith, loop-test.true)) in
+    record {
+      within = omega (arith, loop-test.true);
+      table =
+          rw (
+            put-in-column4.ensures,
+            put-in-column3.ensures,
+            put-in-column2.ensures,
+            put-in-column.ensures,
+            rm-at.ensures.value,
+            rd-at.ensures.value,
+            cd-at.ensures.value,
+            cm-at.ensures.value,
+          )
+          table;
+      same_long = t4.given ∙ t3.given ∙ t2.given ∙ t.given ∙ loop.invariant.same_long;
+    }
+
+pub shape_of-t : goal.shape_of-t
+shape_of-t c =
+    let loop = c.loop-v in
+    loop.invariant.same_long
+
+pub returns : goal.returns
+returns c =
+    let loop = c.loop-v in
+    let args = c.args in
+    let e : loop.v ≡ args.job.tasks + 1 = omega (arith, loop.invariant.within) in rw e at loop.invariant.table
