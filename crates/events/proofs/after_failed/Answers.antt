@@ -1,0 +1,34 @@
+-- `events::after_failed` meets its contract. What is kept after the copy is the weight of the tasks after it. Assumes nothing.
+use native.Mathlib.Omega.{arith}
+use Rattle.job.specs.Job.{between}
+use Rattle.rules.specs.Rules.{total_of}
+use Rattle.events.specs.Events.{back_to_memory}
+use Rattle.events.proofs.after_failed.Goals as goal
+
+pub overflow_add-sums : goal.overflow_add-sums
+unfolding total_of
+overflow_add-sums c =
+    let v-of = c.v_of in
+    let pre = c.requires in
+    omega (arith, v-of.ensures.fits, pre.here.sums)
+
+pub overflow_add-sums-2 : goal.overflow_add-sums-2
+unfolding total_of
+overflow_add-sums-2 c =
+    let rm-of = c.rm_of in
+    let pre = c.requires in
+    omega (arith, rm-of.ensures.fits, pre.here.sums)
+
+pub back_to-requires : goal.back_to-requires
+unfolding total_of
+back_to-requires c =
+    let pre = c.requires in
+    record { kept = pre.kept; fits = omega (arith, pre.here.sums) }
+
+pub returns : goal.returns
+unfolding back_to_memory between
+returns c =
+    let back_to = c.back_to in
+    let rm-of = c.rm_of in
+    let v-of = c.v_of in
+    λ job e kept. rw (back_to.ensures, v-of.ensures.value job e, rm-of.ensures.value job e, ← kept.here, ← kept.there)
