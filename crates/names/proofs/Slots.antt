@@ -12,10 +12,6 @@ use lib.Seq.{drop-cons, drop-length, get_or-take, length-take-le}
 use Rattle.names.specs.Names.{name_limit, no_held, is_held, slot_of}
 use Rattle.names.specs.declared.Held.{Held}
 
--- the length of an array of structs
-pub length_of_lem : {A B : Type 0} (f : A → B) (l : List A) (n : ℕ) → length (map f l) ≡ n → length l ≡ n
-length_of_lem f l n e = sym (length-map l f) ∙ e
-
 -- the names held are as many as their count says
 pub long_held : (n : ℕ) (l : List Held) → length l ≡ name_limit → n ≤ name_limit → length (take n l) ≡ n
 long_held n l e h = length-take-le n l (rw e h)

@@ -6,16 +6,16 @@ use Rattle.following.proofs.out_of_turn.Goals as goal
 
 pub returns-in-Done : goal.returns-in-Done
 unfolding out_of_turn
-returns-in-Done c = rw c.enum_told-1.given.1
+returns-in-Done c = rw c.in-Done.is
 
 pub returns-in-Passed : goal.returns-in-Passed
 unfolding out_of_turn
-returns-in-Passed c = rw c.enum_told-in-Passed-1.given.1 (sym (not-not _))
+returns-in-Passed c = rw c.in-Passed.is (sym (not-not _))
 
 pub returns-in-Failed : goal.returns-in-Failed
 unfolding out_of_turn
-returns-in-Failed c = rw c.enum_told-in-Failed-1.given.1 (sym (not-not _))
+returns-in-Failed c = rw c.in-Failed.is (sym (not-not _))
 
 pub returns-in-Stopped : goal.returns-in-Stopped
 unfolding out_of_turn
-returns-in-Stopped c = rw c.enum_told-in-Stopped-1.given.1
+returns-in-Stopped c = rw c.in-Stopped.is

@@ -4,20 +4,20 @@ use Rattle.following.proofs.over_weight.Goals as goal
 
 pub returns-in-Done : goal.returns-in-Done
 unfolding over_weight
-returns-in-Done c = λ run w p. rw c.enum_told-1.given.1
+returns-in-Done c =  λ run w p. rw c.in-Done.is
 
 pub returns-in-Passed : goal.returns-in-Passed
 unfolding over_weight
-returns-in-Passed c = λ run w p. rw c.enum_told-in-Passed-1.given.1
+returns-in-Passed c = λ run w p. rw c.in-Passed.is
 
 pub returns-in-Failed : goal.returns-in-Failed
 unfolding over_weight
-returns-in-Failed c = λ run w p. rw c.enum_told-in-Failed-1.given.1
+returns-in-Failed c = λ run w p. rw c.in-Failed.is
 
 pub returns-in-Stopped : goal.returns-in-Stopped
 unfolding over_weight
 returns-in-Stopped c =
     let wide = c.wide in
     let weight-at = c.weight_at in
-    let event = c.event-1 in
-    λ run w p. rw (event.given.1, w, p, weight-at.ensures.value, wide.ensures.value)
+    let event = c.in-Stopped in
+    λ run w p. rw (event.is, w, p, weight-at.ensures.value, wide.ensures.value)
