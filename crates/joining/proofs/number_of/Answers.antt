@@ -1,0 +1,15 @@
+-- `joining::number_of` meets its contract. The two cases of a reading. Assumes nothing.
+use Rattle.joining.specs.Working.Ready.{number_in}
+use Rattle.joining.proofs.number_of.Goals as goal
+
+pub returns-in-Accepted : goal.returns-in-Accepted
+unfolding number_in
+returns-in-Accepted c =
+    let enum_told = c.enum_told-1 in
+    rw enum_told.given.1
+
+pub returns-in-Refused : goal.returns-in-Refused
+unfolding number_in
+returns-in-Refused c =
+    let reading = c.reading-1 in
+    rw reading.given.1
