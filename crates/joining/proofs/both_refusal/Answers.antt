@@ -1,23 +1,25 @@
 -- `joining::both_refusal` meets its contract. The tests in their order: each return names the first to hold. Assumes nothing.
 use Rattle.joining.proofs.Both.{both_other, both_many, both_heavy, both_short, both_joined, total_taken, length_taken}
+use mathlib.Core.Path.{ap}
+use mathlib.Core.Bool.{not}
 use native.Mathlib.Omega.{arith}
 use Rattle.joining.proofs.both_refusal.Goals as goal
 
 pub returns-then-not-same : goal.returns-then-not-same
 returns-then-not-same c =
     let is_same = c.is_same-same in
-    both_other _ _ _ is_same.ensures c.if-not-same.true
+    both_other _ _ _ is_same.ensures (ap not c.if-not-same.true)
 
 pub returns-then-n-gt-TASK_LIMIT : goal.returns-then-n-gt-TASK_LIMIT
 returns-then-n-gt-TASK_LIMIT c =
     let is_same = c.is_same-same in
-    both_many _ _ _ is_same.ensures c.if-not-same.false (omega arith)
+    both_many _ _ _ is_same.ensures (ap not c.if-not-same.false) (omega arith)
 
 pub returns-then-total-gt-TOTAL_LIMIT : goal.returns-then-total-gt-TOTAL_LIMIT
 returns-then-total-gt-TOTAL_LIMIT c =
     let is_same = c.is_same-same in
     let sum = total_taken c.weight_to.ensures.value c.weight_to-2.ensures.value in
-    both_heavy _ _ _ is_same.ensures c.if-not-same.false c.if-n-gt-TASK_LIMIT.false sum (omega arith)
+    both_heavy _ _ _ is_same.ensures (ap not c.if-not-same.false) c.if-n-gt-TASK_LIMIT.false sum (omega arith)
 
 pub returns-then-room-size : goal.returns-then-room-size
 returns-then-room-size c =
@@ -27,7 +29,7 @@ returns-then-room-size c =
     let size = length_taken _ _ pre c.sheet_length-size.ensures in
     let first_range = c.weight_to.ensures.range in
     let second_range = c.weight_to-2.ensures.range in
-    both_short _ _ _ is_same.ensures c.if-not-same.false c.if-n-gt-TASK_LIMIT.false sum (omega arith) size c.if-room-size.true
+    both_short _ _ _ is_same.ensures (ap not c.if-not-same.false) c.if-n-gt-TASK_LIMIT.false sum (omega arith) size c.if-room-size.true
 
 pub returns : goal.returns
 returns c =
@@ -37,4 +39,4 @@ returns c =
     let size = length_taken _ _ pre c.sheet_length-size.ensures in
     let first_range = c.weight_to.ensures.range in
     let second_range = c.weight_to-2.ensures.range in
-    both_joined _ _ _ is_same.ensures c.if-not-same.false c.if-n-gt-TASK_LIMIT.false sum (omega arith) size c.if-room-size.false
+    both_joined _ _ _ is_same.ensures (ap not c.if-not-same.false) c.if-n-gt-TASK_LIMIT.false sum (omega arith) size c.if-room-size.false

@@ -5,11 +5,11 @@ use Rattle.joining.proofs.number_of.Goals as goal
 pub returns-in-Accepted : goal.returns-in-Accepted
 unfolding number_in
 returns-in-Accepted c =
-    let enum_told = c.enum_told-1 in
-    rw enum_told.given.1
+    let case = c.in-Accepted in
+    rw case.is
 
 pub returns-in-Refused : goal.returns-in-Refused
 unfolding number_in
 returns-in-Refused c =
-    let reading = c.reading-1 in
-    rw reading.given.1
+    let case = c.in-Refused in
+    rw case.is
