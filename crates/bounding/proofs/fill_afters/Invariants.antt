@@ -1,6 +1,6 @@
 -- `bounding::fill_afters` meets its contract. The loop's invariant: what comes after the copies from u on is filled. The measure is u. Assumes nothing.
 use mathlib.Core.List.{List}
-use Prim.Native.Nat.{ℕ, ◌+◌, ◌-◌, ◌≤◌}
+use Prim.Native.Nat.{ℕ, ◌+◌, ◌≤◌}
 use mathlib.Core.Path.{◌≡◌}
 use lib.ListN.{length}
 use Rattle.bounding.specs.Working.Stages.{Stage, ahead_length}

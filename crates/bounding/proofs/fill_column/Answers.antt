@@ -1,6 +1,6 @@
 use mathlib.Core.Path.{◌≡◌, ◌∙◌, refl}
 use native.Mathlib.Omega.{arith}
-use Prim.Native.Nat.{min, ◌+◌, ◌-◌}
+use Prim.Native.Nat.{min, ◌+◌}
 use Rattle.bounding.proofs.Bounds.{column_last, column_next, looked_kept, kept_put, since_ready, after_other, after_here, column_first, after_ready}
 use Rattle.table.specs.Working.Table.{cd_start, column}
 use Rattle.bounds.specs.Working.Bounds.{bounds_in}

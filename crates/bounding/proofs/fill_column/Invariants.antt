@@ -4,7 +4,6 @@ use mathlib.Core.List.{List}
 use lib.ListN.{length}
 use Prim.Native.Nat.{ℕ, ◌-◌, ◌≤◌}
 use Rattle.bounding.specs.Working.Stages.{Looked, Column}
-use Rattle.table.specs.Working.Table.{column}
 use Rattle.bounds.specs.Working.Bounds.{bounds_in}
 use Rattle.bounding.proofs.fill_column.Given as goal
 

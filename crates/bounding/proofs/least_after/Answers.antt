@@ -1,4 +1,4 @@
-use Prim.Native.Nat.{◌-◌, ◌<◌}
+use Prim.Native.Nat.{◌<◌}
 use native.Mathlib.Omega.{arith}
 use Rattle.bounds.proofs.Bounds.{recovery_product, recovery_cap}
 use Rattle.bounding.proofs.Bounds.{at_most_next}

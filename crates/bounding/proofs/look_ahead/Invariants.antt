@@ -4,7 +4,6 @@ use mathlib.Core.List.{List}
 use Prim.Native.Nat.{◌+◌, ◌-◌, ◌≤◌, ◌<◌, ℕ}
 use Rattle.bounding.specs.Working.Stages.{Ahead}
 use Rattle.bounding.proofs.Bounds.{Past}
-use Rattle.verifications.proofs.Rows.{end_within}
 use Rattle.bounding.proofs.look_ahead.Given as goal
 
 pub record Looked-to (b t : List ℕ) (u n : ℕ) (ahead : List ℕ) (end v : ℕ) : Type 0 where

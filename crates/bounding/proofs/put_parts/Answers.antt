@@ -1,5 +1,5 @@
 use mathlib.Core.Path.{◌≡◌}
-use Prim.Native.Nat.{◌+◌, ◌-◌}
+use Prim.Native.Nat.{◌+◌}
 use native.Mathlib.Omega.{arith}
 use Rattle.bounding.proofs.Bounds.{parts_more, parts_none}
 use Rattle.bounding.proofs.put_parts.Goals as goal

@@ -1,5 +1,5 @@
 -- S from the factors of a stretch and the recoveries of its last copies, and how far these numbers may go, so that no product or sum passes 64 bits.
-use Rattle.std.specs.Prelude.{ℕ, ◌+◌, ◌-◌, ◌*◌, ◌≤◌, ◌<◌, ◌^◌, ◌≡◌}
+use Rattle.std.specs.Prelude.{ℕ, ◌+◌, ◌-◌, ◌*◌, ◌≤◌, ◌^◌, ◌≡◌}
 use Rattle.units.specs.Unit.{unit, up}
 use Rattle.units.specs.Limits.{cost_limit, none}
 use Rattle.units.specs.Working.Caps.{growth_cap}

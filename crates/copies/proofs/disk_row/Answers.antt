@@ -1,6 +1,5 @@
-use Prim.Native.Nat.{ℕ, ◌-◌}
+use Prim.Native.Nat.{ℕ}
 use mathlib.Core.Path.{sym, ◌∙◌}
-use mathlib.Core.Logic.{⊎_elim}
 use native.Mathlib.Omega.{arith}
 use lib.ListN.{length-replicate}
 use Rattle.units.specs.Limits.{none}
@@ -98,20 +97,20 @@ loop-d-preserved c =
     let after = c.after in
     let if1 = c.if-start-after in
     elim c.if-start-after.branch [
-      then-start-after w ↦ record {
-      to = omega arith;
-      turn =
-          rw (w.time-is, w.backs-is)
-          (disks_offered _ _ _ _ pre.bounding pre.ends pre.limited _ _ _ loop.invariant.turn (omega arith) _ lesser.ensures
-          (rw (← after.ensures) w.if-start-after.true) _ _ w.offer_disk.ensures);
-    }
-    | else-start-after w ↦ record {
-      to = omega arith;
-      turn =
-          rw (w.time-is, w.backs-is)
-          (disks_passed _ _ _ _ pre.bounding pre.ends pre.limited _ _ _ loop.invariant.turn (omega arith) _ lesser.ensures
-          (rw (← after.ensures) w.if-start-after.false));
-    }
+      | then-start-after w ↦ record {
+        to = omega arith;
+        turn =
+            rw (w.time-is, w.backs-is)
+            (disks_offered _ _ _ _ pre.bounding pre.ends pre.limited _ _ _ loop.invariant.turn (omega arith) _ lesser.ensures
+            (rw (← after.ensures) w.if-start-after.true) _ _ w.offer_disk.ensures);
+      }
+      | else-start-after w ↦ record {
+        to = omega arith;
+        turn =
+            rw (w.time-is, w.backs-is)
+            (disks_passed _ _ _ _ pre.bounding pre.ends pre.limited _ _ _ loop.invariant.turn (omega arith) _ lesser.ensures
+            (rw (← after.ensures) w.if-start-after.false));
+      }
     ]
 
 pub shape_of-time : goal.shape_of-time

@@ -1,6 +1,5 @@
-use Prim.Native.Nat.{ℕ, ◌-◌}
+use Prim.Native.Nat.{ℕ}
 use mathlib.Core.Path.{sym, ◌∙◌}
-use mathlib.Core.Logic.{⊎_elim}
 use native.Mathlib.Omega.{arith}
 use lib.ListN.{length-replicate}
 use Rattle.units.specs.Limits.{none}
@@ -75,20 +74,20 @@ loop-m-preserved c =
     let far = c.far-last in
     let if1 = c.if-m-last in
     elim c.if-m-last.branch [
-      then-m-last w ↦ record {
-      from = omega (arith, loop.invariant.from);
-      to = omega arith;
-      turn =
-          rw (w.time-is, w.backs-is)
-          (copies_offered _ _ _ _ _ _ pre.bounding pre.room _ _ _ loop.invariant.turn loop.invariant.from (omega arith) _ far.ensures w.if-m-last.true _ _ w.offer_memory.ensures);
-    }
-    | else-m-last w ↦ record {
-      from = omega (arith, loop.invariant.from);
-      to = omega arith;
-      turn =
-          rw (w.time-is, w.backs-is)
-          (copies_passed _ _ _ _ _ _ pre.bounding pre.room _ _ _ loop.invariant.turn loop.invariant.from (omega arith) _ far.ensures w.if-m-last.false);
-    }
+      | then-m-last w ↦ record {
+        from = omega (arith, loop.invariant.from);
+        to = omega arith;
+        turn =
+            rw (w.time-is, w.backs-is)
+            (copies_offered _ _ _ _ _ _ pre.bounding pre.room _ _ _ loop.invariant.turn loop.invariant.from (omega arith) _ far.ensures w.if-m-last.true _ _ w.offer_memory.ensures);
+      }
+      | else-m-last w ↦ record {
+        from = omega (arith, loop.invariant.from);
+        to = omega arith;
+        turn =
+            rw (w.time-is, w.backs-is)
+            (copies_passed _ _ _ _ _ _ pre.bounding pre.room _ _ _ loop.invariant.turn loop.invariant.from (omega arith) _ far.ensures w.if-m-last.false);
+      }
     ]
 
 pub shape_of-time : goal.shape_of-time

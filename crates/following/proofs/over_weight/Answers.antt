@@ -4,7 +4,7 @@ use Rattle.following.proofs.over_weight.Goals as goal
 
 pub returns-in-Done : goal.returns-in-Done
 unfolding over_weight
-returns-in-Done c =  λ run w p. rw c.in-Done.is
+returns-in-Done c = λ run w p. rw c.in-Done.is
 
 pub returns-in-Passed : goal.returns-in-Passed
 unfolding over_weight

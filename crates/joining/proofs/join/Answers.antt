@@ -7,7 +7,6 @@ use Rattle.joining.proofs.join.Goals as goal
 pub returns-in_default : goal.returns-in_default
 returns-in_default c =
     let read = c.read-reading in
-    
     let number_of = c.number_of in
     let refused = c.refused in
     let told = reading_refused _ c.in_default.is read.ensures number_of.ensures in
@@ -18,7 +17,6 @@ returns-in_default-other c =
     let read = c.read-reading in
     let reading = c.in-Accepted in
     let read2 = c.read-other in
-
     let number-of2 = c.number_of-in_default-other in
     let refused2 = c.refused-in_default-other in
     let first = reading_accepted _ reading.is read.ensures in

@@ -27,15 +27,18 @@ pub loop-j-preserved : goal.loop-j-preserved
 loop-j-preserved c =
     let kind-of = c.kind_of in
     let loop = c.loop-j in
-    elim c.if-kind_of-k.branch [ then-kind_of-k w ↦ record {
-      within = omega arith;
-      count = w.n-is ∙ (ap (λ n. n + 1) loop.invariant.count ∙ counted_more _ _ loop.j (sym kind-of.ensures ∙ w.if-kind_of-k.true));
-      few = omega arith;
-    } | else-kind_of-k w ↦ record {
-      within = omega arith;
-      count = w.n-is ∙ (loop.invariant.count ∙ counted_same _ _ loop.j (λ e. w.if-kind_of-k.false (kind-of.ensures ∙ e)));
-      few = omega arith;
-    } ]
+    elim c.if-kind_of-k.branch [
+      | then-kind_of-k w ↦ record {
+        within = omega arith;
+        count = w.n-is ∙ (ap (λ n. n + 1) loop.invariant.count ∙ counted_more _ _ loop.j (sym kind-of.ensures ∙ w.if-kind_of-k.true));
+        few = omega arith;
+      }
+      | else-kind_of-k w ↦ record {
+        within = omega arith;
+        count = w.n-is ∙ (loop.invariant.count ∙ counted_same _ _ loop.j (λ e. w.if-kind_of-k.false (kind-of.ensures ∙ e)));
+        few = omega arith;
+      }
+    ]
 
 pub returns : goal.returns
 returns c =

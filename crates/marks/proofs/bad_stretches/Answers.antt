@@ -41,15 +41,15 @@ loop-j-preserved c =
     let walked = loop.invariant.walked in
     let range = walked_range _ _ _ _ _ walked pre.sound c.loop-j-test.true in
     elim c.if-marks-j-ne0.branch [
-      then-marks-j-ne0+then-heaviest-weight w ↦ record {
+      | then-marks-j-ne0+then-heaviest-weight w ↦ record {
         to = omega arith;
         walked = rw (w.heaviest-is, w.weight-is) (walked_heavier _ _ _ _ _ walked (pos_of_ne-zero w.if-marks-j-ne0.true) range w.if-heaviest-weight.true);
       }
-    | then-marks-j-ne0+else-heaviest-weight w ↦ record {
+      | then-marks-j-ne0+else-heaviest-weight w ↦ record {
         to = omega arith;
         walked = rw (w.heaviest-is, w.weight-is) (walked_lighter _ _ _ _ _ walked (pos_of_ne-zero w.if-marks-j-ne0.true) w.if-heaviest-weight.false);
       }
-    | else-marks-j-ne0 w ↦ record {
+      | else-marks-j-ne0 w ↦ record {
         to = omega arith;
         walked = rw (w.heaviest-is, w.weight-is) (walked_plain _ _ _ _ _ walked w.if-marks-j-ne0.false);
       }

@@ -22,8 +22,8 @@ loop-j-preserved c =
     let args = c.args in
     let loop = c.loop-j in
     elim c.if-most-w.branch [
-      then-most-w w ↦ record { to = omega arith; value = w.most-is ∙ sym (heaviest_more args.weights.now loop.j (omega arith)) }
-    | else-most-w w ↦ record { to = omega arith; value = w.most-is ∙ loop.invariant.value ∙ sym (heaviest_kept args.weights.now loop.j (omega arith)) }
+      | then-most-w w ↦ record { to = omega arith; value = w.most-is ∙ sym (heaviest_more args.weights.now loop.j (omega arith)) }
+      | else-most-w w ↦ record { to = omega arith; value = w.most-is ∙ loop.invariant.value ∙ sym (heaviest_kept args.weights.now loop.j (omega arith)) }
     ]
 
 pub returns : goal.returns

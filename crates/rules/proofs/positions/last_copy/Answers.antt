@@ -31,8 +31,8 @@ loop-j-preserved c =
     let loop = c.loop-j in
     let if1 = c.if-least-run in
     elim c.if-least-run.branch [
-      then-least-run w ↦ record { to = omega arith; value = w.found-is ∙ sym (last_next _ args.run.marks _ w.if-least-run.true) }
-    | else-least-run w ↦ record { to = omega arith; value = w.found-is ∙ loop.invariant.value ∙ sym (last_kept _ args.run.marks loop.j w.if-least-run.false) }
+      | then-least-run w ↦ record { to = omega arith; value = w.found-is ∙ sym (last_next _ args.run.marks _ w.if-least-run.true) }
+      | else-least-run w ↦ record { to = omega arith; value = w.found-is ∙ loop.invariant.value ∙ sym (last_kept _ args.run.marks loop.j w.if-least-run.false) }
     ]
 
 pub returns : goal.returns
