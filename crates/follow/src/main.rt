@@ -244,13 +244,7 @@ fn follow(
 }
 
 // What is printed. The log is opened after the sheet is read, and before it is looked at.
-fn open_and_follow(
-    rt: &HostRuntime,
-    sheet: &[u8],
-    marks: &[u8],
-    path: &[u8],
-    count: usize,
-) -> Text
+fn open_and_follow(rt: &HostRuntime, sheet: &[u8], marks: &[u8], path: &[u8], count: usize) -> Text
     ensures { CallPrints sheet.now marks.now path.now (words_after count) result }
 {
     match console::open(rt, path) {
@@ -267,10 +261,7 @@ fn read_and_follow(rt: &HostRuntime, marks: &[u8], path: &[u8], count: usize) {
         return;
     }
     let n = taken.n;
-    console::print(
-        rt,
-        open_and_follow(rt, &sheet[..n], marks, path, count),
-    );
+    console::print(rt, open_and_follow(rt, &sheet[..n], marks, path, count));
 }
 
 // Whether argument i is the number of a name; one that is not has its line.
