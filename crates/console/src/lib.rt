@@ -2,7 +2,7 @@
 #![tactic(auto)]
 
 ghost use Rattle.std.specs.Prelude.{◌≤◌, length};
-ghost use Rattle.io.specs.Counts.{IsPrefixLen};
+ghost use Rattle.console.specs.Counts.{IsPrefixLen};
 ghost use Rattle.output.specs.Texts.{line_room};
 ghost use Rattle.output.specs.Files.{FileTold};
 ghost use Rattle.output.specs.Working.Ready.{ReadyForComplaint};

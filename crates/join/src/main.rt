@@ -5,7 +5,7 @@
 ghost use Rattle.std.specs.Prelude.{◌≤◌, length};
 ghost use Rattle.output.specs.Texts.{line_room};
 ghost use Rattle.output.specs.Working.Ready.{ReadyForComplaint};
-ghost use Rattle.io.specs.Counts.{IsPrefixLen};
+ghost use Rattle.console.specs.Counts.{IsPrefixLen};
 
 use console::{Taken, UNNUMBERED};
 use header::{LONGEST_SHEET, SHEET_ROOM};
