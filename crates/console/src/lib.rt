@@ -1,9 +1,10 @@
 // What the programs read and write: a text by one call, the sheet on standard input, files, and marks or a number in an argument.
 #![tactic(auto)]
 
-ghost use Rattle.std.specs.Prelude.{◌≤◌, length};
+ghost use Rattle.std.specs.Prelude.{◌≡◌, ◌<◌, ◌≤◌, true, false, length, take};
+ghost use Rattle.std.specs.Io.KnownBytes.{Appends, Consumes, IsAtEnd};
 ghost use Rattle.console.specs.Counts.{IsPrefixLen};
-ghost use Rattle.output.specs.Texts.{line_room};
+ghost use Rattle.output.specs.Texts.{line_room, text_of};
 ghost use Rattle.output.specs.Files.{FileTold};
 ghost use Rattle.output.specs.Working.Ready.{ReadyForComplaint};
 
@@ -32,6 +33,7 @@ pub const UNNUMBERED: i32 = 0;
 // A text, to a file; whether all of it was written.
 pub fn print_to<W: Write>(file: &mut W, text: Text) -> bool
     requires { text.length ≤ length text.bytes }
+    ensures { result ≡ true → Appends (W.contents file.old) (W.contents file.new) (text_of text) }
 {
     let n = text.length;
     let bytes = text.bytes;
@@ -161,7 +163,9 @@ pub struct Taken {
 
 // Reads until the buffer is full, the input ends or a read fails. Unlike `read_exact`, it tells a failure from the input's end.
 pub fn read_all<R: Read>(file: &mut R, buf: &mut [u8]) -> Taken
-    ensures { IsPrefixLen result.n buf.new }
+    ensures count { IsPrefixLen result.n buf.new }
+    ensures bytes { Consumes (R.remaining file.old) (R.remaining file.new) (take result.n buf.new) }
+    ensures end { result.failed ≡ false → result.n < length buf.new → IsAtEnd (R.remaining file.new) }
 {
     let mut n: usize = 0;
     while n < buf.len() {
