@@ -1,8 +1,8 @@
 /* The library of Pulvanor for C and other languages, on x86-64 Linux.
 
-   `rt staticlib pulvanor` writes target/staticlib/libpulvanor.a; compile with this header and link with it:
+   `rt lib` in crates/pulvanor writes out/libpulvanor.a there; compile with this header and link with it:
 
-       cc -Iinclude program.c target/staticlib/libpulvanor.a
+       cc -Iinclude program.c crates/pulvanor/out/libpulvanor.a
 
    Every function takes every value of its numbers, bytes and states. Of a pointer and the length after it is
    asked that they are those of memory that can be read (and, for a buffer, written), that the buffer overlaps

@@ -1,15 +1,18 @@
-// What the programs read and write: a text by one call, the sheet on standard input, and marks or a number in an argument.
+// What the programs read and write: a text by one call, the sheet on standard input, files, and marks or a number in an argument.
 #![tactic(auto)]
 
-ghost use Rattle.std.specs.Prelude.{◌≤◌, length};
-ghost use Rattle.io.specs.Counts.{IsPrefixLen};
-ghost use Rattle.output.specs.Texts.{line_room};
+ghost use Rattle.std.specs.Prelude.{◌≡◌, ◌<◌, ◌≤◌, true, false, length, take};
+ghost use Rattle.std.specs.Io.KnownBytes.{Appends, Consumes, IsAtEnd};
+ghost use Rattle.console.specs.Counts.{IsPrefixLen};
+ghost use Rattle.output.specs.Texts.{line_room, text_of};
 ghost use Rattle.output.specs.Files.{FileTold};
 ghost use Rattle.output.specs.Working.Ready.{ReadyForComplaint};
 
-use libc::{EACCES, EISDIR, ENOENT, STDERR_FILENO, STDIN_FILENO, STDOUT_FILENO};
 use numerals::{Number, to_marks, to_number};
 use output::{Text, complaint};
+use std::env::{Env, FillError};
+use std::fs::File;
+use std::io::{Error, Read, Write};
 
 // Linux hands a program no argument of more than 131,071 bytes.
 pub const ARGUMENT_ROOM: usize = 131_072;
@@ -17,66 +20,95 @@ pub const ARGUMENT_ROOM: usize = 131_072;
 // More than the word `--help` has.
 const HELP_ROOM: usize = 16;
 
-// A text, to a file by one call; whether all of it was written.
-pub fn print_to(file: i32, text: Text) -> bool
+// The system's numbers of errors.
+const MISSING: i32 = 2;
+
+const FORBIDDEN: i32 = 13;
+
+const DIRECTORY: i32 = 21;
+
+// No error, or one that the system gives no number.
+pub const UNNUMBERED: i32 = 0;
+
+// A text, to a file; whether all of it was written.
+pub fn print_to<W: Write>(file: &mut W, text: Text) -> bool
     requires { text.length ≤ length text.bytes }
+    ensures { result ≡ true → Appends (W.contents file.old) (W.contents file.new) (text_of text) }
 {
     let n = text.length;
     let bytes = text.bytes;
-    io::write_all(file, &bytes[..n])
+    file.write_all(&bytes[..n]).is_ok()
 }
 
 // That an answer could not be written, to standard error.
-pub fn unwritten() {
-    print_to(STDERR_FILENO, complaint(b"cannot write: ", b"answer"));
+pub fn unwritten(rt: &HostRuntime) {
+    print_to(&mut rt.stderr(), complaint(b"cannot write: ", b"answer"));
 }
 
 // A text, to standard output; one that cannot be written has its line on standard error.
-pub fn print(text: Text)
+pub fn print(rt: &HostRuntime, text: Text)
     requires { text.length ≤ length text.bytes }
 {
-    if !print_to(STDOUT_FILENO, text) {
-        unwritten();
+    if !print_to(&mut rt.stdout(), text) {
+        unwritten(rt);
     }
 }
 
 // What is wrong, and with which argument or file, on one line.
-pub fn complain(words: &[u8], which: &[u8])
+pub fn complain(rt: &HostRuntime, words: &[u8], which: &[u8])
     requires { ReadyForComplaint words.now which.now }
 {
-    print(complaint(words, which));
+    print(rt, complaint(words, which));
+}
+
+// Whether there is an argument i; argument 0 is the program's own name.
+pub fn has_argument(rt: &HostRuntime, i: usize) -> bool {
+    !matches!(rt.arg(i, &mut []), Err(FillError::NotPresent))
+}
+
+// How many arguments there are.
+pub fn argument_count(rt: &HostRuntime) -> usize {
+    for i in 0..usize::MAX {
+        if !has_argument(rt, i) {
+            return i;
+        }
+    }
+    usize::MAX
 }
 
 // Whether the first argument is `--help`.
-fn is_help() -> bool {
+fn is_help(rt: &HostRuntime) -> bool {
     let mut word = [0u8; HELP_ROOM];
-    let n = os::arg(1, &mut word);
-    if os::errno() != 0 {
-        return false;
-    }
-    check::same(&word[..n], b"--help")
+    let taken = argument(rt, 1, &mut word);
+    let n = taken.n;
+    &word[..n] == b"--help".as_slice()
 }
 
 // A first word of `--help` prints how the program is used; whether it is one.
-pub fn help_answered(usage: &[u8]) -> bool {
-    if !is_help() {
+pub fn help_answered(rt: &HostRuntime, usage: &[u8]) -> bool {
+    if !is_help(rt) {
         return false;
     }
-    if !io::write_all(STDOUT_FILENO, usage) {
-        unwritten();
+    if rt.stdout().write_all(usage).is_err() {
+        unwritten(rt);
     }
     true
 }
 
 // Calls that are answered by their words alone, and whether this is one: `--help`, and more words than `most`, the program's own name among them, which have a
 // line in a file.
-pub fn words_answered_to(file: i32, most: usize, usage: &[u8]) -> bool {
-    if help_answered(usage) {
+pub fn words_answered_to<W: Write>(
+    rt: &HostRuntime,
+    file: &mut W,
+    most: usize,
+    usage: &[u8],
+) -> bool {
+    if help_answered(rt, usage) {
         return true;
     }
-    if most < os::arg_count() {
+    if has_argument(rt, most) {
         if !print_to(file, complaint(b"too many arguments", b"")) {
-            unwritten();
+            unwritten(rt);
         }
         return true;
     }
@@ -84,8 +116,8 @@ pub fn words_answered_to(file: i32, most: usize, usage: &[u8]) -> bool {
 }
 
 // The same, the line on standard output.
-pub fn words_answered(most: usize, usage: &[u8]) -> bool {
-    words_answered_to(STDOUT_FILENO, most, usage)
+pub fn words_answered(rt: &HostRuntime, most: usize, usage: &[u8]) -> bool {
+    words_answered_to(rt, &mut rt.stdout(), most, usage)
 }
 
 // The line of a file that could not be read, by the system's number of the error.
@@ -93,73 +125,127 @@ pub fn unreadable(which: &[u8], path: &[u8], error: i32) -> Text
     requires { length which.now ≤ line_room }
     ensures { FileTold which.now path.now result }
 {
-    if error == ENOENT {
+    if error == MISSING {
         return output::unreadable(which, path, b": missing");
     }
-    if error == EACCES {
+    if error == FORBIDDEN {
         return output::unreadable(which, path, b": forbidden");
     }
-    if error == EISDIR {
+    if error == DIRECTORY {
         return output::unreadable(which, path, b": a directory");
     }
     output::unreadable(which, path, b"")
 }
 
-// How many bytes a read put at the start of its buffer, and whether it failed.
+// The system's number of an error.
+fn number_of(error: &Error) -> i32 {
+    error.raw_os_error().unwrap_or(UNNUMBERED)
+}
+
+// Opens the file of this name, or gives the system's number of the error. A name that is no UTF-8 opens no file.
+pub fn open(rt: &HostRuntime, path: &[u8]) -> Result<File, i32> {
+    match str::from_utf8(path) {
+        Ok(name) => match File::open(rt, name) {
+            Ok(file) => Ok(file),
+            Err(error) => Err(number_of(&error)),
+        },
+        Err(_) => Err(UNNUMBERED),
+    }
+}
+
+// How many bytes a read put at the start of its buffer, whether it failed, and the system's number of the error.
 #[derive(Drop)]
 pub struct Taken {
     pub n: usize,
     pub failed: bool,
+    pub error: i32,
 }
 
-// Reads until the buffer is full, the input ends or a read fails. Unlike `io::read_full`, it tells a failure from the input's end.
-pub fn read_all(fd: i32, buf: &mut [u8]) -> Taken
-    ensures { IsPrefixLen result.n buf.new }
+// Reads until the buffer is full, the input ends or a read fails. Unlike `read_exact`, it tells a failure from the input's end.
+pub fn read_all<R: Read>(file: &mut R, buf: &mut [u8]) -> Taken
+    ensures count { IsPrefixLen result.n buf.new }
+    ensures bytes { Consumes (R.remaining file.old) (R.remaining file.new) (take result.n buf.new) }
+    ensures end { result.failed ≡ false → result.n < length buf.new → IsAtEnd (R.remaining file.new) }
 {
     let mut n: usize = 0;
     while n < buf.len() {
-        let got = libc::read(fd, &mut buf[n..]);
-        if got < 0 {
-            return Taken { n, failed: true };
+        match file.read(&mut buf[n..]) {
+            Ok(0) => {
+                return Taken {
+                    n,
+                    failed: false,
+                    error: UNNUMBERED,
+                };
+            }
+            Ok(more) => n += more,
+            Err(error) => {
+                return Taken {
+                    n,
+                    failed: true,
+                    error: number_of(&error),
+                };
+            }
         }
-        let more = io::count(got, &buf[n..]);
-        if more == 0 {
-            return Taken { n, failed: false };
-        }
-        n += more;
     }
-    Taken { n, failed: false }
+    Taken {
+        n,
+        failed: false,
+        error: UNNUMBERED,
+    }
+}
+
+// Argument i, at the start of the buffer; it failed where there is none, or where the buffer is too short for it.
+pub fn argument(rt: &HostRuntime, i: usize, buf: &mut [u8]) -> Taken
+    ensures { IsPrefixLen result.n buf.new }
+{
+    match rt.arg(i, buf) {
+        Ok(n) => Taken {
+            n,
+            failed: false,
+            error: UNNUMBERED,
+        },
+        Err(_) => Taken {
+            n: 0,
+            failed: true,
+            error: UNNUMBERED,
+        },
+    }
 }
 
 // The sheet on standard input; a read that fails has its line.
-pub fn read_sheet(sheet: &mut [u8]) -> Taken
+pub fn read_sheet(rt: &HostRuntime, sheet: &mut [u8]) -> Taken
     ensures { IsPrefixLen result.n sheet.new }
 {
-    let taken = read_all(STDIN_FILENO, sheet);
+    let taken = read_all(&mut rt.stdin(), sheet);
     if taken.failed {
-        complain(b"cannot read: ", b"sheet");
+        complain(rt, b"cannot read: ", b"sheet");
     }
     taken
 }
 
 // The marks that the first argument gives as digits; one that is too long or no digits has its line.
-pub fn read_marks(text: &mut [u8]) -> Taken
+pub fn read_marks(rt: &HostRuntime, text: &mut [u8]) -> Taken
     ensures { IsPrefixLen result.n text.new }
 {
-    let n = os::arg(1, text);
-    if os::errno() != 0 {
-        complain(b"argument too long: ", b"marks");
-        return Taken { n, failed: true };
+    let taken = argument(rt, 1, text);
+    if taken.failed {
+        complain(rt, b"argument too long: ", b"marks");
+        return taken;
     }
+    let n = taken.n;
     if to_marks(&mut text[..n]) {
-        return Taken { n, failed: false };
+        return taken;
     }
-    complain(b"not digits: ", b"marks");
-    Taken { n, failed: true }
+    complain(rt, b"not digits: ", b"marks");
+    Taken {
+        n,
+        failed: true,
+        error: UNNUMBERED,
+    }
 }
 
 // The number that argument i gives in digits; one that is missing, too long or no number has its line.
-pub fn read_number(i: usize, which: &[u8]) -> Number
+pub fn read_number(rt: &HostRuntime, i: usize, which: &[u8]) -> Number
     requires { length which.now ≤ line_room }
 {
     let mut text = [0u8; ARGUMENT_ROOM];
@@ -167,18 +253,19 @@ pub fn read_number(i: usize, which: &[u8]) -> Number
         value: 0,
         failed: true,
     };
-    if os::arg_count() <= i {
-        complain(b"missing argument: ", which);
+    if !has_argument(rt, i) {
+        complain(rt, b"missing argument: ", which);
         return none;
     }
-    let n = os::arg(i, &mut text);
-    if os::errno() != 0 {
-        complain(b"argument too long: ", which);
+    let taken = argument(rt, i, &mut text);
+    if taken.failed {
+        complain(rt, b"argument too long: ", which);
         return none;
     }
+    let n = taken.n;
     let number = to_number(&text[..n]);
     if number.failed {
-        complain(b"not a number: ", which);
+        complain(rt, b"not a number: ", which);
     }
     number
 }

@@ -20,33 +20,37 @@ fn text_of(sheet: &[u8], powers: Powers) -> Text
 }
 
 // The plan of the sheet on standard input.
-fn plan(powers: Powers) {
+fn plan(rt: &HostRuntime, powers: Powers) {
     let mut sheet = [0u8; SHEET_ROOM];
-    let taken = console::read_sheet(&mut sheet);
+    let taken = console::read_sheet(rt, &mut sheet);
     if taken.failed {
         return;
     }
     let n = taken.n;
-    console::print(text_of(&sheet[..n], powers));
+    console::print(rt, text_of(&sheet[..n], powers));
 }
 
-fn main() {
+fn main(rt: HostRuntime) {
     if console::words_answered(
+        &rt,
         3,
         b"energy COMPUTING SAVING < SHEET\nPrints the least expected energy by these powers, 1 to 16, then one digit a task, or refused N.\nExample: energy 3 5 < crates/energy/stdin\n",
     ) {
         return;
     }
-    let computing = console::read_number(1, b"computing power");
+    let computing = console::read_number(&rt, 1, b"computing power");
     if computing.failed {
         return;
     }
-    let saving = console::read_number(2, b"saving power");
+    let saving = console::read_number(&rt, 2, b"saving power");
     if saving.failed {
         return;
     }
-    plan(Powers {
-        computing: computing.value,
-        saving: saving.value,
-    });
+    plan(
+        &rt,
+        Powers {
+            computing: computing.value,
+            saving: saving.value,
+        },
+    );
 }

@@ -14,8 +14,9 @@ use header::SHEET_ROOM;
 use named::NamedRun;
 use names::Names;
 use naming::NamedStepped;
-use output::{Text, complaint, refused_text, standing_text, unknown_word};
+use output::{PATH_ROOM, Text, complaint, refused_text, standing_text, unknown_word};
 use refusals::ACCEPTED;
+use std::fs::File;
 
 // 13,107 records of 5 bytes.
 const PIECE_LENGTH: usize = 65_535;
@@ -77,17 +78,17 @@ fn lead(answer: NamedStepped) -> Led
     }
 }
 
-// The log cannot be read.
-fn unreadable(path: &[u8]) -> Text
+// The log cannot be read, by the system's number of the error.
+fn unreadable(path: &[u8], error: i32) -> Text
     ensures { FileTold log_word path.now result }
 {
-    console::unreadable(b"log", path, os::errno())
+    console::unreadable(b"log", path, error)
 }
 
-fn lose(path: &[u8], state: NamedRun) -> Led
+fn lose(path: &[u8], error: i32, state: NamedRun) -> Led
     ensures { Lost path.now result }
 {
-    let text = unreadable(path);
+    let text = unreadable(path, error);
     Led {
         text,
         last: true,
@@ -104,7 +105,7 @@ fn endless() -> Text
 
 // Follows the log piece by piece from the state given. A piece holds whole records, and one that is not full is the last.
 // After full pieces only, the last is empty: an empty log after accepted records is accepted and changes nothing.
-fn follow_log(first: NamedRun, path: &[u8], file: i32) -> Led
+fn follow_log(first: NamedRun, path: &[u8], file: &mut File) -> Led
     ensures { LogLed first path.now result }
 {
     let mut piece = [0u8; PIECE_LENGTH];
@@ -113,7 +114,7 @@ fn follow_log(first: NamedRun, path: &[u8], file: i32) -> Led
     while i < MAX_PIECES {
         let taken = console::read_all(file, &mut piece);
         if taken.failed {
-            return lose(path, state);
+            return lose(path, taken.error, state);
         }
         let n = taken.n;
         let followed = naming::follow(state, &piece[..n]);
@@ -135,30 +136,28 @@ fn follow_log(first: NamedRun, path: &[u8], file: i32) -> Led
 }
 
 // Opens a further log and follows it.
-fn open_log(state: NamedRun, path: &[u8]) -> Led
+fn open_log(rt: &HostRuntime, state: NamedRun, path: &[u8]) -> Led
     ensures { LogLed state path.now result }
 {
-    let file = os::open_read(path);
-    if file < 0 {
-        return lose(path, state);
+    match console::open(rt, path) {
+        Ok(mut file) => follow_log(state, path, &mut file),
+        Err(error) => lose(path, error, state),
     }
-    let led = follow_log(state, path, file);
-    libc::close(file);
-    led
 }
 
 // The log that argument i names.
-fn log_at(state: NamedRun, i: usize) -> Led
+fn log_at(rt: &HostRuntime, state: NamedRun, i: usize) -> Led
     ensures { CallLed state result }
 {
-    let mut path = io::buffer();
-    let n = os::arg(i, &mut path);
-    open_log(state, &path[..n])
+    let mut path = [0u8; PATH_ROOM];
+    let taken = console::argument(rt, i, &mut path);
+    let n = taken.n;
+    open_log(rt, state, &path[..n])
 }
 
 // The name that argument i gives.
-fn name_at(i: usize) -> u8 {
-    let number = console::read_number(i, b"name");
+fn name_at(rt: &HostRuntime, i: usize) -> u8 {
+    let number = console::read_number(rt, i, b"name");
     (number.value % NAME_COUNT) as u8
 }
 
@@ -166,25 +165,26 @@ fn name_at(i: usize) -> u8 {
 fn answer_to(state: NamedRun, word: &[u8], name: u8) -> NamedStepped
     ensures { WordAnswers state word.now name result }
 {
-    if check::same(word, b"name") {
+    if word == b"name".as_slice() {
         return naming::name(state, name);
     }
-    if check::same(word, b"drop") {
+    if word == b"drop".as_slice() {
         return naming::drop_name(state, name);
     }
     naming::return_to(state, name)
 }
 
 // The call that a pair of words asks for: the word at i, and its partner.
-fn call_at(state: NamedRun, i: usize, partner: usize) -> Led
+fn call_at(rt: &HostRuntime, state: NamedRun, i: usize, partner: usize) -> Led
     ensures { CallLed state result }
 {
     let mut word = [0u8; ARGUMENT_ROOM];
-    let n = os::arg(i, &mut word);
-    if check::same(&word[..n], b"log") {
-        return log_at(state, partner);
+    let taken = console::argument(rt, i, &mut word);
+    let n = taken.n;
+    if &word[..n] == b"log".as_slice() {
+        return log_at(rt, state, partner);
     }
-    let name = name_at(partner);
+    let name = name_at(rt, partner);
     lead(answer_to(state, &word[..n], name))
 }
 
@@ -199,14 +199,14 @@ fn words_after(count: usize) -> usize
 }
 
 // The calls of the pairs of words, in turn from the state given; the text of the last.
-fn call_in_turn(first: NamedRun, count: usize) -> Text
+fn call_in_turn(rt: &HostRuntime, first: NamedRun, count: usize) -> Text
     ensures { TurnsPrint first (words_after count) result }
 {
     let mut state = first;
     let mut left = words_after(count);
     while PAIR <= left {
         let i = count - left;
-        let led = call_at(state, i, i + 1);
+        let led = call_at(rt, state, i, i + 1);
         if led.last {
             return led.text;
         }
@@ -220,7 +220,14 @@ fn call_in_turn(first: NamedRun, count: usize) -> Text
 }
 
 // The run of the sheet and the marks through the log, and the calls after it. The log is read only after both are accepted.
-fn follow(sheet: &[u8], marks: &[u8], path: &[u8], file: i32, count: usize) -> Text
+fn follow(
+    rt: &HostRuntime,
+    sheet: &[u8],
+    marks: &[u8],
+    path: &[u8],
+    file: &mut File,
+    count: usize,
+) -> Text
     ensures { FollowPrints sheet.now marks.now path.now (words_after count) result }
 {
     let started = starting::start(sheet, marks);
@@ -233,94 +240,92 @@ fn follow(sheet: &[u8], marks: &[u8], path: &[u8], file: i32, count: usize) -> T
     if led.last {
         return led.text;
     }
-    call_in_turn(led.state, count)
+    call_in_turn(rt, led.state, count)
 }
 
 // What is printed. The log is opened after the sheet is read, and before it is looked at.
-fn open_and_follow(sheet: &[u8], marks: &[u8], path: &[u8], count: usize) -> Text
+fn open_and_follow(rt: &HostRuntime, sheet: &[u8], marks: &[u8], path: &[u8], count: usize) -> Text
     ensures { CallPrints sheet.now marks.now path.now (words_after count) result }
 {
-    let file = os::open_read(path);
-    if file < 0 {
-        return unreadable(path);
+    match console::open(rt, path) {
+        Ok(mut file) => follow(rt, sheet, marks, path, &mut file, count),
+        Err(error) => unreadable(path, error),
     }
-    let text = follow(sheet, marks, path, file, count);
-    libc::close(file);
-    text
 }
 
 // The run under the sheet on standard input.
-fn read_and_follow(marks: &[u8], path: &[u8], count: usize) {
+fn read_and_follow(rt: &HostRuntime, marks: &[u8], path: &[u8], count: usize) {
     let mut sheet = [0u8; SHEET_ROOM];
-    let taken = console::read_sheet(&mut sheet);
+    let taken = console::read_sheet(rt, &mut sheet);
     if taken.failed {
         return;
     }
     let n = taken.n;
-    console::print(open_and_follow(&sheet[..n], marks, path, count));
+    console::print(rt, open_and_follow(rt, &sheet[..n], marks, path, count));
 }
 
 // Whether argument i is the number of a name; one that is not has its line.
-fn is_name(i: usize, word: &[u8]) -> bool
+fn is_name(rt: &HostRuntime, i: usize, word: &[u8]) -> bool
     requires { length word.now ≤ line_room }
 {
-    let number = console::read_number(i, word);
+    let number = console::read_number(rt, i, word);
     if number.failed {
         return false;
     }
     if NAME_MOST < number.value {
-        console::complain(b"out of range: ", word);
+        console::complain(rt, b"out of range: ", word);
         return false;
     }
     true
 }
 
 // Whether argument i can be the name of a log; one that cannot has its line.
-fn is_path(i: usize) -> bool {
-    if os::arg_count() <= i {
-        console::complain(b"missing argument: ", b"log");
+fn is_path(rt: &HostRuntime, i: usize) -> bool {
+    if !console::has_argument(rt, i) {
+        console::complain(rt, b"missing argument: ", b"log");
         return false;
     }
-    let mut path = io::buffer();
-    os::arg(i, &mut path);
-    if os::errno() != 0 {
-        console::complain(b"argument too long: ", b"log");
+    let mut path = [0u8; PATH_ROOM];
+    let taken = console::argument(rt, i, &mut path);
+    if taken.failed {
+        console::complain(rt, b"argument too long: ", b"log");
         return false;
     }
     true
 }
 
 // Whether a word is known and argument i is a partner for it; one that is not has its line.
-fn is_pair(asked: &[u8], i: usize) -> bool {
-    if check::same(asked, b"name") {
-        return is_name(i, b"name");
+fn is_pair(rt: &HostRuntime, asked: &[u8], i: usize) -> bool {
+    if asked == b"name".as_slice() {
+        return is_name(rt, i, b"name");
     }
-    if check::same(asked, b"drop") {
-        return is_name(i, b"drop");
+    if asked == b"drop".as_slice() {
+        return is_name(rt, i, b"drop");
     }
-    if check::same(asked, b"return") {
-        return is_name(i, b"return");
+    if asked == b"return".as_slice() {
+        return is_name(rt, i, b"return");
     }
-    if check::same(asked, b"log") {
-        return is_path(i);
+    if asked == b"log".as_slice() {
+        return is_path(rt, i);
     }
-    console::print(unknown_word(asked));
+    console::print(rt, unknown_word(asked));
     false
 }
 
 // The same for the word at i.
-fn is_pair_at(i: usize, partner: usize) -> bool {
+fn is_pair_at(rt: &HostRuntime, i: usize, partner: usize) -> bool {
     let mut word = [0u8; ARGUMENT_ROOM];
-    let n = os::arg(i, &mut word);
-    is_pair(&word[..n], partner)
+    let taken = console::argument(rt, i, &mut word);
+    let n = taken.n;
+    is_pair(rt, &word[..n], partner)
 }
 
 // Whether all words after the log are pairs; the first that are none have their line.
-fn are_pairs(count: usize) -> bool {
+fn are_pairs(rt: &HostRuntime, count: usize) -> bool {
     let mut left = words_after(count);
     while 0 < left {
         let i = count - left;
-        if !is_pair_at(i, i + 1) {
+        if !is_pair_at(rt, i, i + 1) {
             return false;
         }
         if left < PAIR {
@@ -332,39 +337,41 @@ fn are_pairs(count: usize) -> bool {
 }
 
 // The log that the second argument names, and the words after it.
-fn take_path(marks: &[u8], count: usize) {
-    let mut path = io::buffer();
-    let n = os::arg(2, &mut path);
-    if os::errno() != 0 {
-        console::complain(b"argument too long: ", b"log");
+fn take_path(rt: &HostRuntime, marks: &[u8], count: usize) {
+    let mut path = [0u8; PATH_ROOM];
+    let taken = console::argument(rt, 2, &mut path);
+    if taken.failed {
+        console::complain(rt, b"argument too long: ", b"log");
         return;
     }
-    if !are_pairs(count) {
+    if !are_pairs(rt, count) {
         return;
     }
-    read_and_follow(marks, &path[..n], count);
+    let n = taken.n;
+    read_and_follow(rt, marks, &path[..n], count);
 }
 
-fn main() {
+fn main(rt: HostRuntime) {
     if console::help_answered(
+        &rt,
         b"follow MARKS LOG [name K|drop K|return K|log LOG].. < SHEET\nPrints where a run stands and its names, or refused N.\nExample: follow 23 crates/follow/data/log name 7 < crates/plan/stdin\n",
     ) {
         return;
     }
-    let count = os::arg_count();
+    let count = console::argument_count(&rt);
     if count < 2 {
-        console::complain(b"missing argument: ", b"marks");
+        console::complain(&rt, b"missing argument: ", b"marks");
         return;
     }
     if count < 3 {
-        console::complain(b"missing argument: ", b"log");
+        console::complain(&rt, b"missing argument: ", b"log");
         return;
     }
     let mut marks = [0u8; ARGUMENT_ROOM];
-    let taken = console::read_marks(&mut marks);
+    let taken = console::read_marks(&rt, &mut marks);
     if taken.failed {
         return;
     }
     let n = taken.n;
-    take_path(&marks[..n], count);
+    take_path(&rt, &marks[..n], count);
 }

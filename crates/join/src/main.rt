@@ -2,102 +2,120 @@
 // The number of a refusal, and what cannot be read, have their line on standard error.
 #![tactic(auto)]
 
-ghost use Rattle.std.specs.Prelude.{◌≡◌, ◌≤◌, length};
+ghost use Rattle.std.specs.Prelude.{◌≤◌, length};
 ghost use Rattle.output.specs.Texts.{line_room};
 ghost use Rattle.output.specs.Working.Ready.{ReadyForComplaint};
-ghost use Rattle.io.specs.Counts.{IsPrefixLen};
+ghost use Rattle.console.specs.Counts.{IsPrefixLen};
 
-use console::Taken;
+use console::{Taken, UNNUMBERED};
 use header::{LONGEST_SHEET, SHEET_ROOM};
-use libc::{STDERR_FILENO, STDOUT_FILENO};
-use output::{complaint, refused_text};
+use output::{PATH_ROOM, complaint, refused_text};
+use std::io::Write;
 
 // What is wrong, and with which sheet.
-fn complain(words: &[u8], which: &[u8])
+fn complain(rt: &HostRuntime, words: &[u8], which: &[u8])
     requires { ReadyForComplaint words.now which.now }
 {
-    console::print_to(STDERR_FILENO, complaint(words, which));
+    console::print_to(&mut rt.stderr(), complaint(words, which));
 }
 
 // The joined sheet.
-fn show(first: &[u8], second: &[u8]) {
+fn show(rt: &HostRuntime, first: &[u8], second: &[u8]) {
     let mut sheet = [0u8; LONGEST_SHEET];
     let joined = joining::join(first, second, &mut sheet);
     if joined.number != 0 {
-        console::print_to(STDERR_FILENO, refused_text(joined.number));
+        console::print_to(&mut rt.stderr(), refused_text(joined.number));
         return;
     }
     let n = joined.length;
-    if !io::write_all(STDOUT_FILENO, &sheet[..n]) {
-        console::unwritten();
+    if rt.stdout().write_all(&sheet[..n]).is_err() {
+        console::unwritten(rt);
     }
+}
+
+// That the file of this name cannot be read, by the system's number of the error.
+fn tell(rt: &HostRuntime, which: &[u8], path: &[u8], error: i32)
+    requires { length which.now ≤ line_room }
+{
+    console::print_to(&mut rt.stderr(), console::unreadable(which, path, error));
 }
 
 // The sheet in the file of this name; one that cannot be read has its line.
-fn read_file(which: &[u8], path: &[u8], sheet: &mut [u8]) -> Taken
+fn read_file(rt: &HostRuntime, which: &[u8], path: &[u8], sheet: &mut [u8]) -> Taken
     requires { length which.now ≤ line_room }
     ensures { IsPrefixLen result.n sheet.new }
 {
-    let file = os::open_read(path);
-    if file < 0 {
-        console::print_to(STDERR_FILENO, console::unreadable(which, path, os::errno()));
-        return Taken { n: 0, failed: true };
+    match console::open(rt, path) {
+        Ok(mut file) => {
+            let taken = console::read_all(&mut file, sheet);
+            if taken.failed {
+                tell(rt, which, path, taken.error);
+            }
+            taken
+        }
+        Err(error) => {
+            tell(rt, which, path, error);
+            Taken {
+                n: 0,
+                failed: true,
+                error,
+            }
+        }
     }
-    let taken = console::read_all(file, sheet);
-    if taken.failed {
-        console::print_to(STDERR_FILENO, console::unreadable(which, path, os::errno()));
-    }
-    libc::close(file);
-    taken
 }
 
 // The sheet in the file that argument i names; one that cannot be read has its line.
-fn read_sheet(i: usize, which: &[u8], sheet: &mut [u8]) -> Taken
+fn read_sheet(rt: &HostRuntime, i: usize, which: &[u8], sheet: &mut [u8]) -> Taken
     requires { length which.now ≤ line_room }
     ensures { IsPrefixLen result.n sheet.new }
 {
-    let mut path = io::buffer();
-    let n = os::arg(i, &mut path);
-    if os::errno() != 0 {
-        complain(b"argument too long: ", which);
-        return Taken { n: 0, failed: true };
+    let mut path = [0u8; PATH_ROOM];
+    let named = console::argument(rt, i, &mut path);
+    if named.failed {
+        complain(rt, b"argument too long: ", which);
+        return Taken {
+            n: 0,
+            failed: true,
+            error: UNNUMBERED,
+        };
     }
-    read_file(which, &path[..n], sheet)
+    let n = named.n;
+    read_file(rt, which, &path[..n], sheet)
 }
 
 // The first sheet with the one that the second argument names.
-fn join_second(first: &[u8]) {
+fn join_second(rt: &HostRuntime, first: &[u8]) {
     let mut second = [0u8; SHEET_ROOM];
-    let taken = read_sheet(2, b"second sheet", &mut second);
+    let taken = read_sheet(rt, 2, b"second sheet", &mut second);
     if taken.failed {
         return;
     }
     let n = taken.n;
-    show(first, &second[..n]);
+    show(rt, first, &second[..n]);
 }
 
-fn main() {
+fn main(rt: HostRuntime) {
     if console::words_answered_to(
-        STDERR_FILENO,
+        &rt,
+        &mut rt.stderr(),
         3,
         b"join FIRST SECOND > SHEET\nWrites one sheet from two of one platform; any other line goes to standard error.\nExample: join crates/join/data/screen crates/join/data/classify | plan\n",
     ) {
         return;
     }
-    let count = os::arg_count();
-    if count < 2 {
-        complain(b"missing argument: ", b"first sheet");
+    if !console::has_argument(&rt, 1) {
+        complain(&rt, b"missing argument: ", b"first sheet");
         return;
     }
-    if count < 3 {
-        complain(b"missing argument: ", b"second sheet");
+    if !console::has_argument(&rt, 2) {
+        complain(&rt, b"missing argument: ", b"second sheet");
         return;
     }
     let mut first = [0u8; SHEET_ROOM];
-    let taken = read_sheet(1, b"first sheet", &mut first);
+    let taken = read_sheet(&rt, 1, b"first sheet", &mut first);
     if taken.failed {
         return;
     }
     let n = taken.n;
-    join_second(&first[..n]);
+    join_second(&rt, &first[..n]);
 }

@@ -16,32 +16,33 @@ fn text_of(sheet: &[u8], marks: &[u8]) -> Text
 }
 
 // The price of the marks under the sheet on standard input.
-fn price(marks: &[u8]) {
+fn price(rt: &HostRuntime, marks: &[u8]) {
     let mut sheet = [0u8; SHEET_ROOM];
-    let taken = console::read_sheet(&mut sheet);
+    let taken = console::read_sheet(rt, &mut sheet);
     if taken.failed {
         return;
     }
     let n = taken.n;
-    console::print(text_of(&sheet[..n], marks));
+    console::print(rt, text_of(&sheet[..n], marks));
 }
 
-fn main() {
+fn main(rt: HostRuntime) {
     if console::words_answered(
+        &rt,
         2,
         b"price MARKS < SHEET\nPrints the expected time in ticks under these marks, one digit a task, or refused N.\nExample: price 23 < crates/plan/stdin\n",
     ) {
         return;
     }
-    if os::arg_count() < 2 {
-        console::complain(b"missing argument: ", b"marks");
+    if !console::has_argument(&rt, 1) {
+        console::complain(&rt, b"missing argument: ", b"marks");
         return;
     }
     let mut marks = [0u8; ARGUMENT_ROOM];
-    let taken = console::read_marks(&mut marks);
+    let taken = console::read_marks(&rt, &mut marks);
     if taken.failed {
         return;
     }
     let n = taken.n;
-    price(&marks[..n]);
+    price(&rt, &marks[..n]);
 }

@@ -17,18 +17,19 @@ fn text_of(sheet: &[u8]) -> Text
     plan_text(b"time", answer, marks, task_count(sheet))
 }
 
-fn main() {
+fn main(rt: HostRuntime) {
     if console::words_answered(
+        &rt,
         1,
         b"printed < SHEET\nPrints what plan prints, for up to 8 tasks, by the equations as printed in the paper.\nExample: printed < crates/plan/stdin\n",
     ) {
         return;
     }
     let mut sheet = [0u8; SHEET_ROOM];
-    let taken = console::read_sheet(&mut sheet);
+    let taken = console::read_sheet(&rt, &mut sheet);
     if taken.failed {
         return;
     }
     let n = taken.n;
-    console::print(text_of(&sheet[..n]));
+    console::print(&rt, text_of(&sheet[..n]));
 }

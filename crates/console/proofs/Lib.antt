@@ -1,2 +1,0 @@
--- Laws that the crate's own proofs cite.
-pub mod Counts
