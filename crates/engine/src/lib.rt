@@ -13,9 +13,9 @@ use refusals::{Answer, LONG_CHAIN, SHORT_BUFFER, TOO_SLOW, accepted, refused};
 use sheet::read::read_job;
 use units::NONE;
 
-mod walk;
+mod walk_back;
 
-use walk::plan_marks;
+use walk_back::plan_marks;
 
 // The most tasks: the functions call each other more than three times as often for each task more.
 pub const PRINTED_LIMIT: usize = 8;

@@ -6,7 +6,7 @@ use Rattle.job.specs.Working.Sound.{Sound}
 use Rattle.job.specs.declared.Job.{Job}
 use Rattle.costs.specs.Stretch.{chain_of}
 use Rattle.equations.specs.Equations.{E_disk}
-use Rattle.engine.specs.declared.walk.Place as code
+use Rattle.engine.specs.declared.walk_back.Place as code
 
 -- the theory's place of one in code
 abbrev pub place_of : code.Place → Place

@@ -1,4 +1,4 @@
--- `engine::walk::plan_marks` meets its contract. The loop's invariant: the marks after w.v are the plan's, and w is the place of the theory's walk there. The
+-- `engine::walk_back::plan_marks` meets its contract. The loop's invariant: the marks after w.v are the plan's, and w is the place of the theory's walk there. The
 -- measure is w.v. Assumes nothing.
 use Prim.Native.Nat.{ℕ, ◌<◌}
 use mathlib.Core.List.{List}
@@ -7,7 +7,7 @@ use Rattle.chain.specs.Working.Walk.{Place, OnWay, Placed}
 use Rattle.job.specs.declared.Job.{Job}
 use Rattle.costs.specs.Stretch.{chain_of}
 use Rattle.engine.specs.Working.Places.{place_of}
-use Rattle.engine.proofs.walk.plan_marks.Given as goal
+use Rattle.engine.proofs.walk_back.plan_marks.Given as goal
 
 pub record Walked (job : Job) (w : Place) (marks : List ℕ) : Type 0 where
   pub placed : Placed (chain_of job) none job.tasks w marks

@@ -2,7 +2,7 @@ use native.Mathlib.Omega.{arith}
 use Rattle.chain.proofs.Walk.{state_disk}
 use Rattle.chain.proofs.Placing.{placed_first, placed_next, placed_last}
 use Rattle.units.specs.Limits.{task_limit}
-use Rattle.engine.proofs.walk.plan_marks.Goals as goal
+use Rattle.engine.proofs.walk_back.plan_marks.Goals as goal
 
 pub at_disk-w-requires : goal.at_disk-w-requires
 at_disk-w-requires c = record { sound = c.requires.sound; some_task = c.requires.sound.some_task; end = omega arith; in_time = c.requires.in_time }

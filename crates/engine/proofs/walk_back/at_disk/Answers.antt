@@ -1,4 +1,4 @@
--- `engine::walk::at_disk` meets its contract: the earliest positions are the plan's. Assumes nothing.
+-- `engine::walk_back::at_disk` meets its contract: the earliest positions are the plan's. Assumes nothing.
 use Prim.Native.Nat.{◌<◌}
 use native.Mathlib.Omega.{arith}
 use Rattle.units.specs.Limits.{none}
@@ -6,7 +6,7 @@ use Rattle.chain.specs.Working.Search.{least_m}
 use Rattle.chain.proofs.Walk.{back_d_arrives}
 use Rattle.costs.specs.Stretch.{chain_of}
 use Rattle.equations.proofs.Minima.{disk_back_lem, memory_back_lem}
-use Rattle.engine.proofs.walk.at_disk.Goals as goal
+use Rattle.engine.proofs.walk_back.at_disk.Goals as goal
 
 pub e_disk-d-requires : goal.e_disk-d-requires
 e_disk-d-requires c = record { sound = c.requires.sound; end = c.requires.end }

@@ -1,10 +1,10 @@
--- `engine::walk::step_back` meets its contract. The branches are the theory's: back to a verification, to a memory copy, to a disk copy, or to the start.
+-- `engine::walk_back::step_back` meets its contract. The branches are the theory's: back to a verification, to a memory copy, to a disk copy, or to the start.
 -- Assumes nothing.
 use mathlib.Core.Path.{refl, sym, ◌∙◌}
 use native.Mathlib.Omega.{arith}
 use Rattle.chain.proofs.Placing.{before_mark, before_memory, before_disk, before_start}
 use Rattle.equations.proofs.Minima.{memory_back_lem, verification_back_lem}
-use Rattle.engine.proofs.walk.step_back.Goals as goal
+use Rattle.engine.proofs.walk_back.step_back.Goals as goal
 
 pub e_mem-mem-requires : goal.e_mem-mem-requires
 e_mem-mem-requires c =
