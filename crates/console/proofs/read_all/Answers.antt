@@ -21,8 +21,8 @@ loop-n-preserved g c = record {
   within = search rules;
   long = search rules;
   bytes =
-    subst
-    (Consumes _ _)
-    (sym (filled c.loop-n.n (length c.loop-n.buf - c.loop-n.n) c.in-Ok.more c.loop-n.buf c.read.new.buf c.loop-n.invariant.within c.in-Ok.ensures.bound.0))
-    (Consumes-trans _ _ _ _ _ c.loop-n.invariant.bytes c.in-Ok.ensures.bytes.0);
+      subst
+      (Consumes _ _)
+      (sym (filled c.loop-n.n (length c.loop-n.buf - c.loop-n.n) c.in-Ok.more c.loop-n.buf c.read.new.buf c.loop-n.invariant.within c.in-Ok.ensures.bound.0))
+      (Consumes-trans _ _ _ _ _ c.loop-n.invariant.bytes c.in-Ok.ensures.bytes.0);
 }
