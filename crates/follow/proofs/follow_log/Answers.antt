@@ -1,5 +1,5 @@
 -- Each piece that is accepted leads on; the last, and one that is refused, leads where the log does.
-use Rattle.std.proofs.Common.{arith, refl, inl, inr, ◌∙◌, rules}
+use Rattle.std.proofs.Common.{arith, refl, inl, rules}
 use Rattle.follow.proofs.Pieces.{reached_none, reached_more, reached_leads}
 use Rattle.follow.proofs.follow_log.Goals as goal
 
