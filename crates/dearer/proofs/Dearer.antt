@@ -85,9 +85,9 @@ module _ (s s' l : List ℕ) (dearer : CostsRaised (job_of s) (job_of s')) where
   same : first (marks_conditions (job_of s) l) ≡ first (marks_conditions (job_of s') l)
   same = rw (marks_same (job_of s) (job_of s') dearer l)
 
-  pub price_not_sooner : NotSooner (cheaper_refusal s ≡ 0) (dearer_refusal s' ≡ 0) (price_of s l) (price_of s' l)
+  prices_in_order : NotSooner (cheaper_refusal s ≡ 0) (dearer_refusal s' ≡ 0) (price_of s l) (price_of s' l)
   unfolding price_of
-  price_not_sooner =
+  prices_in_order =
       record {
         time = λ e e'. omega (arith, answered_time (price_refusal s l) (time_of (job_of s) l) (number s l e), answered_time (price_refusal s' l) (time_of (job_of s') l) (number s' l e'), longer);
         slow =
@@ -104,9 +104,12 @@ module _ (s s' l : List ℕ) (dearer : CostsRaised (job_of s) (job_of s')) where
             (omega (arith, result_in_time s' l k, longer));
       }
 
+  pub price_not_sooner : NotSooner (cheaper_refusal s ≡ 0) (dearer_refusal s' ≡ 0) (price_of s l) (price_of s' l)
+  price_not_sooner = prices_in_order
+
 -- 'raising any of the five costs, other fields fixed'
 pub price_raised : (cost : Cost) (s s' l : List ℕ) → OneRaised cost (job_of s) (job_of s') → NotSooner (cheaper_refusal s ≡ 0) (dearer_refusal s' ≡ 0) (price_of s l) (price_of s' l)
-price_raised cost s s' l one = price_not_sooner s s' l (raised_dearer cost (job_of s) (job_of s') one)
+price_raised cost s s' l one = prices_in_order s s' l (raised_dearer cost (job_of s) (job_of s') one)
 
 -- where the dearer sheet gets a result, so does the cheaper, and it is not more: on average, what is booked from the dearer's time is enough
 pub booking_holds : {P P' : Type 0} {r r' : Answer} → NotSooner P P' r r' → P → r'.number ≡ Numbers.accepted

@@ -57,4 +57,6 @@ module _ (s s' : List ℕ) (dearer : CostsRaised (job_of s) (job_of s')) where
 pub printed_raised : (cost : Cost) (s s' : List ℕ) → OneRaised cost (job_of s) (job_of s') → (before after before' after' : List ℕ) (r r' : Answer)
     → PlansAsPrinted s before after r → PlansAsPrinted s' before' after' r'
     → NotSooner (Free (cheaper_refusal s) (job_of s).tasks before) (Free (dearer_refusal s') (job_of s').tasks before') r r'
-printed_raised cost s s' one = printed_not_sooner s s' (raised_dearer cost (job_of s) (job_of s') one)
+printed_raised cost s s' one before after before' after' r r' =
+    let dearer = raised_dearer cost (job_of s) (job_of s') one in
+    checked_not_sooner (job_of s).tasks _ _ _ _ _ _ (compared s s' dearer) before after before' after' r r' dearer.others.tasks

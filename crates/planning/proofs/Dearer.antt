@@ -149,9 +149,11 @@ module _ (cost : Cost) (s s' : List ℕ) (raised : OneRaised cost (job_of s) (jo
 
   pub plan_raised : (before after before' after' : List ℕ) (r r' : Answer) → Plans s before after r → Plans s' before' after' r'
       → NotSooner (Free (cheaper_refusal s) (job_of s).tasks before) (Free (dearer_refusal s') (job_of s').tasks before') r r'
-  plan_raised = plan_not_sooner s s' dearer
+  plan_raised before after before' after' r r' =
+      checked_not_sooner (job_of s).tasks _ _ _ _ _ _ (compared s s' dearer) before after before' after' r r' dearer.others.tasks
 
   pub energy_raised : (before after before' after' : List ℕ) (r r' : Answer) (powers : Powers) → PlansByEnergy powers s before after r
       → PlansByEnergy powers s' before' after' r'
       → NotSooner (Free (cheaper_refusal s) (job_of s).tasks before) (Free (energy_dearer_refusal powers s') (job_of s').tasks before') r r'
-  energy_raised = energy_not_sooner s s' dearer
+  energy_raised before after before' after' r r' powers =
+      checked_not_sooner (job_of s).tasks _ _ _ _ _ _ (energy_compared s s' dearer powers) before after before' after' r r' dearer.others.tasks
