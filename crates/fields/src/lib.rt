@@ -11,7 +11,7 @@ pub const FIELD_LENGTH: usize = 4;
 fn wide(b: u8) -> u64
     ensures { Ranged b (2 ^ 8) result }
 {
-    b as u64
+    u64::from(b)
 }
 
 pub fn byte(part: &[u8], at: usize) -> u64
@@ -51,9 +51,7 @@ pub fn put_fields(buffer: &mut [u8], at: usize, values: &[u32])
     requires { at + field_length * length values.now ≤ length buffer.old }
     ensures { buffer.new ≡ sets buffer.old at (fields values.now) }
 {
-    let mut j: usize = 0;
-    while j < values.len() {
-        put_field(buffer, at + FIELD_LENGTH * j, values[j]);
-        j += 1;
+    for (j, &x) in values.iter().enumerate() {
+        put_field(buffer, at + FIELD_LENGTH * j, x);
     }
 }

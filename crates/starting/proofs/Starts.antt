@@ -10,7 +10,7 @@ use Rattle.refusals.specs.Refusals.{first}
 use Rattle.refusals.proofs.Refusals.{first_stands, first_goes_on}
 use Rattle.job.specs.Working.Sound.{Sound}
 use Rattle.sheet.specs.Reading.{sheet_conditions, sheet_refusal, job_of, reading_of}
-use Rattle.sheet.specs.declared.JobReading.{JobReading}
+use Rattle.sheet.specs.Reading.{JobReading}
 use Rattle.sheet.proofs.Readings.{sheet_numbered, sheet_sound, reading_number, reading_job}
 use Rattle.marks.specs.Marks.{marks_conditions}
 use Rattle.marks.proofs.Stretches.{marks_length, marks_passed}

@@ -2,7 +2,7 @@
 -- Assumes nothing.
 use mathlib.Core.Path.{sym, ◌∙◌, ap}
 use native.Mathlib.Omega.{arith}
-use Rattle.sheet.specs.declared.JobReading.{JobReading}
+use Rattle.sheet.specs.Reading.{JobReading}
 use Rattle.sheet.proofs.Readings.{reading_number, reading_job, sheet_sound}
 use Rattle.answers.proofs.Promises.{checked_answer, short_answer, chain_answer}
 use Rattle.engine.proofs.Answers.{printed_sheet, printed_long, printed_clear}

@@ -3,7 +3,7 @@
 use mathlib.Core.Path.{sym, ◌∙◌, ap}
 use native.Mathlib.Omega.{arith}
 use Rattle.chain.proofs.Same.{same_allowed}
-use Rattle.sheet.specs.declared.JobReading.{JobReading}
+use Rattle.sheet.specs.Reading.{JobReading}
 use Rattle.sheet.proofs.Readings.{reading_number, reading_job, sheet_sound}
 use Rattle.costs.proofs.Ranges.{plain_products}
 use Rattle.costs.proofs.Stretches.{plain_same}

@@ -2,7 +2,7 @@
 use mathlib.Core.Path.{sym, ◌∙◌, ap}
 use native.Mathlib.Omega.{arith}
 use Rattle.refusals.proofs.Answers.{answered_refused, answered_accepted}
-use Rattle.sheet.specs.declared.JobReading.{JobReading}
+use Rattle.sheet.specs.Reading.{JobReading}
 use Rattle.sheet.proofs.Readings.{reading_number, reading_job, sheet_sound}
 use Rattle.pricing.specs.Price.{price_of}
 use Rattle.pricing.proofs.Prices.{slow_decides, slow_passes, price_sheet, price_marks, price_time, cut_slow, cut_below, cut_same}

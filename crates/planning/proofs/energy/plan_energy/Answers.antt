@@ -3,7 +3,7 @@
 use mathlib.Core.Path.{sym, ◌∙◌, ap}
 use native.Mathlib.Omega.{arith}
 use borrow.Author.Tests.{ltb-true, ltb-false}
-use Rattle.sheet.specs.declared.JobReading.{JobReading}
+use Rattle.sheet.specs.Reading.{JobReading}
 use Rattle.sheet.proofs.Readings.{reading_number, reading_job, sheet_sound}
 use Rattle.planning.proofs.EnergyRefusals.{energy_sheet, energy_bad, energy_clear}
 use Rattle.powers.proofs.Powers.{powers_fit}

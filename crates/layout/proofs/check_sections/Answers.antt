@@ -1,10 +1,10 @@
--- `layout::section_refusal` meets its contract. Conditions 5, 28 and 6 by the branches, in their order; past 5, a byte is stray just where the sections
+-- `layout::check_sections` meets its contract. Conditions 5, 28 and 6 by the branches, in their order; past 5, a byte is stray just where the sections
 -- are not contiguous. Assumes nothing.
 use mathlib.Core.Path.{sym, ◌∙◌, ap}
 use mathlib.Core.Bool.{not}
 use Rattle.refusals.proofs.Refusals.{refused_here, refused_later, refused_none}
 use Rattle.extents.proofs.Stray.{stray_contiguous}
-use Rattle.layout.proofs.section_refusal.Goals as goal
+use Rattle.layout.proofs.check_sections.Goals as goal
 
 pub returns-then-misplaced : goal.returns-then-misplaced
 returns-then-misplaced c =

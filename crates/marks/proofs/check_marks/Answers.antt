@@ -1,7 +1,7 @@
--- `marks::marks_refusal` meets its contract. Conditions 9 and 10 by the branches, in their order: each return names the first to hold. Assumes nothing.
+-- `marks::check_marks` meets its contract. Conditions 9 and 10 by the branches, in their order: each return names the first to hold. Assumes nothing.
 use mathlib.Core.Path.{sym, ◌∙◌}
 use Rattle.refusals.specs.Refusals.{first}
-use Rattle.marks.proofs.marks_refusal.Goals as goal
+use Rattle.marks.proofs.check_marks.Goals as goal
 
 pub returns-then-bad_marks : goal.returns-then-bad_marks
 unfolding first

@@ -1,6 +1,6 @@
--- `header::header_refusal` meets its contract. Conditions 1 to 4 by the branches, in their order: each return names the first to hold. Assumes nothing.
+-- `header::check_header` meets its contract. Conditions 1 to 4 by the branches, in their order: each return names the first to hold. Assumes nothing.
 use Rattle.refusals.proofs.Refusals.{refused_here, refused_later, refused_none}
-use Rattle.header.proofs.header_refusal.Goals as goal
+use Rattle.header.proofs.check_header.Goals as goal
 
 pub returns-then-bad_length : goal.returns-then-bad_length
 returns-then-bad_length c = refused_here _ _ c.bad_length.ensures c.if-bad_length.true

@@ -1,4 +1,4 @@
--- `job::checks::job_refusal` meets its contract. Checks 7 and 8 by the branches, in their order: each return names the first to hold. Assumes nothing.
+-- `job::checks::check_job` meets its contract. Checks 7 and 8 by the branches, in their order: each return names the first to hold. Assumes nothing.
 use mathlib.Core.Path.{◌≡◌, sym, ◌∙◌}
 use native.Mathlib.Omega.{arith}
 use borrow.Author.Rules.{rules}
@@ -9,7 +9,7 @@ use Rattle.units.specs.Limits.{task_limit}
 use Rattle.job.specs.Checks.{bad_value}
 use Rattle.job.proofs.Ranges.{weight_ranges, value_passes}
 use Rattle.job.proofs.Heaviest.{heaviest_range, task_decided}
-use Rattle.job.proofs.checks.job_refusal.Goals as goal
+use Rattle.job.proofs.checks.check_job.Goals as goal
 
 pub returns-then-bad_cost : goal.returns-then-bad_cost
 unfolding first bad_value
