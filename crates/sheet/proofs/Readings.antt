@@ -52,6 +52,10 @@ module _ (s : List ℕ) where
   unfolding reading_of
   reading_accepted job e h = (sym e, rw (← e, h) refl)
 
+  pub reading_given : (job : Job) → 0 ≡ sheet_refusal s → job ≡ job_of s → record { number = 0; job = job } ≡ reading_of s
+  unfolding reading_of
+  reading_given job e h = rw (← e, h)
+
   -- and what each says of the sheet
   pub reading_number : (reading_of s).number ≡ sheet_refusal s
   unfolding reading_of

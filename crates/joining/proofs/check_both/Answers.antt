@@ -1,9 +1,9 @@
--- `joining::both_refusal` meets its contract. The tests in their order: each return names the first to hold. Assumes nothing.
+-- `joining::check_both` meets its contract. The tests in their order: each return names the first to hold. Assumes nothing.
 use Rattle.joining.proofs.Both.{both_other, both_many, both_heavy, both_short, both_joined, total_taken, length_taken}
 use mathlib.Core.Path.{ap}
 use mathlib.Core.Bool.{not}
 use native.Mathlib.Omega.{arith}
-use Rattle.joining.proofs.both_refusal.Goals as goal
+use Rattle.joining.proofs.check_both.Goals as goal
 
 pub returns-then-not-same : goal.returns-then-not-same
 returns-then-not-same c =
