@@ -4,7 +4,9 @@ use mathlib.Core.Path.{◌≡◌, refl, sym, ◌∙◌, ap}
 use mathlib.Core.Bool.{Bool, true, false, not, ◌||◌, ◌&&◌}
 use mathlib.Core.List.{List, [], ◌∷◌}
 use native.Mathlib.Omega.{arith}
+use lib.Dec.{eqb}
 use lib.ListN.{length, get_or}
+use lib.Pointwise.{pointwise}
 use denote.Param.Members.{Mut, Called}
 use Rattle.std.specs.Option.{MatchOption}
 use Rattle.std.specs.declared.option.Option.{Option}
@@ -23,7 +25,7 @@ some_same zero p q e = refl
 some_same (suc n) p q e = rw (some_same n p q e, e n) refl
 
 -- the first number apart from the others
-some_front : (n : ℕ) (p : ℕ → Bool) → some (suc n) p ≡ (p 0 || some n (λ i. p (suc i)))
+pub some_front : (n : ℕ) (p : ℕ → Bool) → some (suc n) p ≡ (p 0 || some n (λ i. p (suc i)))
 unfolding some
 some_front zero p = last (p 0)
   where
@@ -76,3 +78,16 @@ any_in p (x ∷ l) = rw (any_in p l) (sym (some_front (length l) (λ k. p (get_o
 
 pub all_in : (p : ℕ → Bool) (l : List ℕ) → list_all p l ≡ not (some (length l) (λ k. not (p (get_or l k 0))))
 all_in p l = all_not p l ∙ ap not (any_in (λ i. not (p i)) l)
+
+-- lists of one length that agree place by place: no place differs
+pub pointwise_in : (l m : List ℕ) → length l ≡ length m → pointwise eqb l m ≡ not (some (length l) (λ k. not (eqb (get_or l k 0) (get_or m k 0))))
+unfolding some
+pointwise_in [] [] e = refl
+pointwise_in [] (y ∷ m) e = absurd (omega arith)
+pointwise_in (x ∷ l) [] e = absurd (omega arith)
+pointwise_in (x ∷ l) (y ∷ m) e =
+    rw (pointwise_in l m (omega arith), some_front (length l) (λ k. not (eqb (get_or (x ∷ l) k 0) (get_or (y ∷ m) k 0)))) (apart (eqb x y) (some (length l) (λ k. not (eqb (get_or l k 0) (get_or m k 0)))))
+  where
+    apart : (a b : Bool) → (a && not b) ≡ not (not a || b)
+    apart true b = refl
+    apart false b = refl
