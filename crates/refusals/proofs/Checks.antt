@@ -63,3 +63,8 @@ refuses_first r cs ds failed e = e ∙ sym (first_stands cs ds (omega (arith, to
 -- after a check that passes, those after it decide
 pub passes_on : {A : Type 0} {n : ℕ} (r : Result A Refusal) (a : A) (cs ds : List Condition) → Numbered cs → r ≡ Ok a → told r ≡ first cs → n ≡ first ds → n ≡ first (cs ++ ds)
 passes_on r a cs ds numbered passed e later = later ∙ sym (first_goes_on cs ds numbered (sym e ∙ ap told passed))
+
+-- the answer of a call that refuses
+pub answer_refused : (r : Result ℕ Refusal) (time : ℕ) {code : ℕ} → IsErr r → told r ≡ code → answer_of r ≡ answered code time
+answer_refused (Ok a) time failed e = absurd (false≢true failed)
+answer_refused (Err refusal) time failed e = answered_refused time e (number_positive refusal)

@@ -10,6 +10,7 @@ use Rattle.refusals.specs.Refusals.{first, has, distinct, Numbered}
 use Rattle.refusals.proofs.Refusals.{first_stands, first_goes_on, first_none}
 use Rattle.refusals.specs.Checks.{told}
 use Rattle.refusals.specs.declared.Refusal.{Refusal}
+use Rattle.refusals.proofs.Checks.{tells_told}
 use Rattle.job.specs.Checks.{job_conditions}
 use Rattle.job.specs.Working.Sound.{Sound}
 use Rattle.job.specs.declared.Job.{Job}
@@ -64,3 +65,13 @@ module _ (s : List ℕ) where
   pub reading_job : sheet_refusal s ≡ 0 → (reading_of s).job ≡ job_of s
   unfolding reading_of
   reading_job e = rw (eq-eqb (sheet_refusal s) 0 e)
+
+  -- what reading tells: a refusal's number, and the values of an accepted sheet
+  pub read_told : (r : Result Job Refusal) → Reads s r → told r ≡ sheet_refusal s
+  read_told r reads = tells_told r _ _ reads ∙ reading_number
+
+  pub read_accepted : {job : Job} (r : Result Job Refusal) → r ≡ Ok job → Reads s r → (sheet_refusal s ≡ 0) × (job ≡ job_of s)
+  read_accepted r e reads =
+      let said = rw e at reads in
+      let accepted = sym reading_number ∙ said.0 in
+      (accepted, said.1 ∙ reading_job accepted)

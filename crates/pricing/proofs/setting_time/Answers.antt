@@ -72,14 +72,6 @@ returns-then-s-ge-NONE c =
     let next = progress_past _ _ _ _ loop.invariant.progress (marks_range _ _ passed.marks _ loop-test.true) in
     sym (progress_slow _ _ (marks_end _ _ passed.marks) _ _ next (omega arith) (rw past-mark.ensures.value at if1.true))
 
-pub overflow_add-j-in-loop-j : goal.overflow_add-j-in-loop-j
-overflow_add-j-in-loop-j c =
-    let pre = c.requires in
-    omega (arith, pre.sound.few_tasks)
-
-pub loop-j-smaller : goal.loop-j-smaller
-loop-j-smaller c = omega arith
-
 pub loop-j-preserved : goal.loop-j-preserved
 loop-j-preserved c =
     let pre = c.requires in
