@@ -8,7 +8,7 @@ use Rattle.std.proofs.Common.{Result, Ok, Err}
 use mathlib.Core.List.{List, ◌++◌}
 use Rattle.refusals.specs.Refusals.{Condition, Numbered, first}
 use Rattle.refusals.proofs.Refusals.{first_stands, first_goes_on}
-use Rattle.refusals.specs.Answers.{answered}
+use Rattle.refusals.specs.Answers.{refused, answered}
 use Rattle.refusals.specs.Checks.{number, told, Tells, answer_of}
 use Rattle.refusals.specs.declared.Answer.{Answer}
 use Rattle.refusals.specs.declared.Refusal.{Refusal}
@@ -68,3 +68,7 @@ passes_on r a cs ds numbered passed e later = later ∙ sym (first_goes_on cs ds
 pub answer_refused : (r : Result ℕ Refusal) (time : ℕ) {code : ℕ} → IsErr r → told r ≡ code → answer_of r ≡ answered code time
 answer_refused (Ok a) time failed e = absurd (false≢true failed)
 answer_refused (Err refusal) time failed e = answered_refused time e (number_positive refusal)
+
+pub answer_refusal : (r : Result ℕ Refusal) {code : ℕ} → IsErr r → told r ≡ code → answer_of r ≡ refused code
+answer_refusal (Ok a) failed e = absurd (false≢true failed)
+answer_refusal (Err refusal) failed e = ap refused e
