@@ -60,10 +60,10 @@ module _ (N b : ℕ) (cost : Cost) (v : ℕ) where
 
   -- one more arrival, which is not before its start
   pub least_next : (u x best : ℕ) → b ≤ u → x ≡ cost u (reach N b cost u) v → reach N b cost u ≤ x → best ≡ least N (way N b cost v) u
-      → min x best ≡ least N (way N b cost v) (u + 1)
+      → min best x ≡ least N (way N b cost v) (u + 1)
   least_next u x best h e l i = let s : u + 1 ≡ suc u = omega arith in rw s (go (dec_lt (reach N b cost u) N) (dec_lt (way N b cost v u) best))
     where
-      go : Dec (reach N b cost u < N) → Dec (way N b cost v u < best) → min x best ≡ least N (way N b cost v) (suc u)
+      go : Dec (reach N b cost u < N) → Dec (way N b cost v u < best) → min best x ≡ least N (way N b cost v) (suc u)
       go (yes r) (yes n) = omega (arith, i, e, way_is N b cost v u h r, (least_new N (way N b cost v) u (rw (← i) n)).0)
       go (yes r) (no n) = omega (arith, i, e, way_is N b cost v u h r, (least_old N (way N b cost v) u (omega (arith, i))).0)
       go (no r) n =

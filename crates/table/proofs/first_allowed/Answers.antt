@@ -1,4 +1,3 @@
-use Prim.Native.Nat.{◌-◌}
 use mathlib.Core.Path.{◌≡◌, ◌∙◌, sym, ap}
 use native.Mathlib.Omega.{arith}
 use Rattle.chain.specs.declared.Factors.{Factors}
@@ -17,14 +16,6 @@ pub returns-then-f-ne0 : goal.returns-then-f-ne0
 returns-then-f-ne0 c =
     let loop = c.loop-u in
     loop.invariant
-
-pub overflow_add-u : goal.overflow_add-u
-overflow_add-u c =
-    let pre = c.requires in
-    omega (arith, pre.few)
-
-pub loop-u-smaller : goal.loop-u-smaller
-loop-u-smaller c = omega arith
 
 pub loop-u-preserved : goal.loop-u-preserved
 loop-u-preserved c =

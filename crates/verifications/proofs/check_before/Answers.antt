@@ -1,4 +1,3 @@
-use Prim.Native.Nat.{◌-◌}
 use mathlib.Core.Path.{◌≡◌, ◌∙◌}
 use native.Mathlib.Omega.{arith}
 use Rattle.units.specs.Limits.{none}
@@ -37,14 +36,6 @@ pub offer-requires : goal.offer-requires
 offer-requires c =
     let loop = c.loop-u in
     record { time_room = omega (arith, loop.invariant.earliest.best_long); back_room = omega (arith, loop.invariant.earliest.from_long) }
-
-pub overflow_add-u : goal.overflow_add-u
-overflow_add-u c =
-    let pre = c.requires in
-    omega (arith, pre.bounded.few)
-
-pub loop-u-smaller : goal.loop-u-smaller
-loop-u-smaller c = omega arith
 
 pub loop-u-preserved : goal.loop-u-preserved
 loop-u-preserved c =

@@ -1,6 +1,6 @@
--- `verifications::check_before` meets its contract. The loop's invariant: the positions before u have made their offers to v. The measure is what is left of the positions. Assumes nothing.
+-- `verifications::check_before` meets its contract. The loop's invariant: the positions before u have made their offers to v. Assumes nothing.
 use mathlib.Core.List.{List}
-use Prim.Native.Nat.{◌-◌, ◌≤◌, ℕ}
+use Prim.Native.Nat.{◌≤◌, ℕ}
 use Rattle.chain.specs.declared.Recoveries.{Recoveries}
 use Rattle.units.specs.Limits.{none}
 use Rattle.table.specs.Working.Table.{arrival_at}
@@ -14,6 +14,3 @@ pub record Earliest-to (t : List ℕ) (m v : ℕ) (r : Recoveries) (best from : 
 
 abbrev pub invariant-loop-u : goal.invariant-loop-u
 invariant-loop-u l = Earliest-to l.t l.m l.v l.r l.best l.from l.u
-
-abbrev pub decreases-loop-u : goal.decreases-loop-u
-decreases-loop-u l = l.v - l.u

@@ -1,4 +1,4 @@
-use Prim.Native.Nat.{◌+◌, ◌-◌}
+use Prim.Native.Nat.{◌+◌}
 use mathlib.Core.Path.{◌≡◌, sym, ◌∙◌}
 use native.Mathlib.Omega.{arith}
 use Rattle.table.proofs.Table.{bounded_less}
@@ -17,11 +17,6 @@ bounds-time-m c =
 
 pub overflow_add-end : goal.overflow_add-end
 overflow_add-end c =
-    let pre = c.requires in
-    omega (arith, pre.start, pre.bounded.few)
-
-pub overflow_add-v : goal.overflow_add-v
-overflow_add-v c =
     let pre = c.requires in
     omega (arith, pre.start, pre.bounded.few)
 
@@ -63,14 +58,6 @@ bounds-time-v c =
     let pre = c.requires in
     let loop = c.loop-v in
     omega (arith, pre.bounded.few, loop.invariant.row.long)
-
-pub overflow_add-v-in-loop-v : goal.overflow_add-v-in-loop-v
-overflow_add-v-in-loop-v c =
-    let pre = c.requires in
-    omega (arith, pre.bounded.few)
-
-pub loop-v-smaller : goal.loop-v-smaller
-loop-v-smaller c = omega arith
 
 pub loop-v-preserved : goal.loop-v-preserved
 loop-v-preserved c =

@@ -1,7 +1,6 @@
--- `verifications::verification_row` meets its contract. The loop's invariant: the entries before v are least times, and no position from `end` on is reached.
--- The measure is what is left of the positions. Assumes nothing.
+-- `verifications::verification_row` meets its contract. The loop's invariant: the entries before v are least times, and no position from `end` on is reached. Assumes nothing.
 use mathlib.Core.List.{List}
-use Prim.Native.Nat.{◌+◌, ◌-◌, ◌≤◌, ◌<◌, ℕ}
+use Prim.Native.Nat.{◌+◌, ◌≤◌, ◌<◌, ℕ}
 use Rattle.chain.specs.declared.Recoveries.{Recoveries}
 use Rattle.units.specs.Limits.{none}
 use Rattle.verifications.specs.Working.Rows.{Row, Unreached}
@@ -17,6 +16,3 @@ pub record Row-to (t : List ℕ) (m top : ℕ) (r : Recoveries) (time : List ℕ
 
 abbrev pub invariant-loop-v : goal.invariant-loop-v
 invariant-loop-v l = Row-to l.t l.m l.top l.r l.time l.end l.v
-
-abbrev pub decreases-loop-v : goal.decreases-loop-v
-decreases-loop-v l = (l.top + 1) - l.v
