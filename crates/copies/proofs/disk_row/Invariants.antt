@@ -1,7 +1,6 @@
--- `copies::disk_row` meets its contract. The loop's invariant: the row has had the turns of the positions before d. The measure is what is left of the
--- positions. Assumes nothing.
+-- `copies::disk_row` meets its contract. The loop's invariant: the row has had the turns of the positions before d. Assumes nothing.
 use mathlib.Core.List.{List}
-use Prim.Native.Nat.{ℕ, ◌-◌, ◌≤◌}
+use Prim.Native.Nat.{ℕ, ◌≤◌}
 use Rattle.units.specs.Limits.{none}
 use Rattle.chain.specs.Working.Search.{to_disk}
 use Rattle.copies.specs.Working.Copies.{LiveDisk}
@@ -15,6 +14,3 @@ pub record Turns-to (t b : List ℕ) (limit n : ℕ) (time backs : List ℕ) (d 
 
 abbrev pub invariant-loop-d : goal.invariant-loop-d
 invariant-loop-d l = Turns-to l.t l.b l.limit l.n l.time l.backs l.d
-
-abbrev pub decreases-loop-d : goal.decreases-loop-d
-decreases-loop-d l = l.n - l.d

@@ -11,16 +11,6 @@ use Rattle.copies.proofs.Offers.{turn_first, turn_last}
 use Rattle.copies.proofs.memory_row.Goals as goal
 use Rattle.copies.proofs.memory_row.Goals.{then-m-last, else-m-last}
 
-pub offset_bounds-time-d : goal.offset_bounds-time-d
-offset_bounds-time-d c =
-    let pre = c.requires in
-    omega (arith, pre.start, pre.bounded.few)
-
-pub bounds-time-d : goal.bounds-time-d
-bounds-time-d c =
-    let pre = c.requires in
-    rw (pre.fresh.times, length-replicate) (omega (arith, pre.start, pre.bounded.few))
-
 pub loop-m-init : goal.loop-m-init
 loop-m-init c =
     let pre = c.requires in
@@ -59,14 +49,6 @@ offer_memory-requires c =
       reached = far.ensures.reached if1.true;
     }
 
-pub overflow_add-m : goal.overflow_add-m
-overflow_add-m c =
-    let pre = c.requires in
-    omega (arith, pre.bounded.few)
-
-pub loop-m-smaller : goal.loop-m-smaller
-loop-m-smaller c = omega arith
-
 pub loop-m-preserved : goal.loop-m-preserved
 loop-m-preserved c =
     let pre = c.requires in
@@ -89,18 +71,6 @@ loop-m-preserved c =
             (copies_passed _ _ _ _ _ _ pre.bounding pre.room _ _ _ loop.invariant.turn loop.invariant.from (omega arith) _ far.ensures w.if-m-last.false);
       }
     ]
-
-pub shape_of-time : goal.shape_of-time
-shape_of-time c =
-    let loop = c.loop-m in
-    let pre = c.requires in
-    loop.invariant.turn.times_long ∙ rw pre.fresh.times (sym (length-replicate positions none))
-
-pub shape_of-backs : goal.shape_of-backs
-shape_of-backs c =
-    let loop = c.loop-m in
-    let pre = c.requires in
-    loop.invariant.turn.backs_long ∙ rw pre.fresh.positions_before (sym (length-replicate {A = ℕ} positions 0))
 
 pub returns : goal.returns
 returns c =

@@ -1,7 +1,6 @@
--- `copies::memory_row` meets its contract. The loop's invariant: the row has had the turns of the positions before m. The measure is what is left of the
--- positions. Assumes nothing.
+-- `copies::memory_row` meets its contract. The loop's invariant: the row has had the turns of the positions before m. Assumes nothing.
 use mathlib.Core.List.{List}
-use Prim.Native.Nat.{ℕ, ◌-◌, ◌≤◌}
+use Prim.Native.Nat.{ℕ, ◌≤◌}
 use Rattle.units.specs.Limits.{none}
 use Rattle.chain.specs.Working.Search.{to_memory}
 use Rattle.copies.specs.Working.Copies.{LiveCopy}
@@ -16,6 +15,3 @@ pub record Turns-to (n : ℕ) (t b : List ℕ) (d left top : ℕ) (time backs : 
 
 abbrev pub invariant-loop-m : goal.invariant-loop-m
 invariant-loop-m l = Turns-to l.n l.t l.b l.d l.left l.top l.time l.backs l.m
-
-abbrev pub decreases-loop-m : goal.decreases-loop-m
-decreases-loop-m l = l.top - l.m

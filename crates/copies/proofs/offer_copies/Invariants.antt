@@ -1,7 +1,6 @@
--- `copies::offer_copies` meets its contract. The loop's invariant: the entries after u and before v have had their offer, and the others are untouched.
--- The measure is what is left of the positions. Assumes nothing.
+-- `copies::offer_copies` meets its contract. The loop's invariant: the entries after u and before v have had their offer, and the others are untouched. Assumes nothing.
 use mathlib.Core.List.{List}
-use Prim.Native.Nat.{◌+◌, ◌-◌, ◌≤◌, ◌<◌, ℕ}
+use Prim.Native.Nat.{◌+◌, ◌≤◌, ◌<◌, ℕ}
 use lib.ListN.{get_or}
 use Rattle.copies.specs.Working.Copies.{Offered}
 use Rattle.copies.proofs.offer_copies.Given as goal
@@ -13,6 +12,3 @@ pub record Offered-to (time₀ backs₀ : List ℕ) (u : ℕ) (part copies : Lis
 
 abbrev pub invariant-loop-v : goal.invariant-loop-v
 invariant-loop-v l = Offered-to l.initial.time l.initial.backs l.u l.part l.copies l.top l.t l.time l.backs l.v
-
-abbrev pub decreases-loop-v : goal.decreases-loop-v
-decreases-loop-v l = (l.top + 1) - l.v

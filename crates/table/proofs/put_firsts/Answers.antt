@@ -15,16 +15,6 @@ first_allowed-first-requires c =
       few = omega (arith, pre.few);
     }
 
-pub put_in_column-requires : goal.put_in_column-requires
-put_in_column-requires c =
-    let loop = c.loop-v in
-    let first-allowed = c.first_allowed-first in
-    let pre = c.requires in
-    record {
-      place = record { long = omega (arith, loop.invariant.long, pre.long); few = omega (arith, pre.few) };
-      range = omega (arith, first-allowed.ensures.within, pre.few);
-    }
-
 pub loop-v-preserved : goal.loop-v-preserved
 loop-v-preserved c =
     let loop = c.loop-v in
@@ -32,9 +22,3 @@ loop-v-preserved c =
     let put-in-column = c.put_in_column in
     let pre = c.requires in
     rw put-in-column.ensures (firsts_more _ _ _ _ loop.invariant (omega (arith, pre.long)) (omega (arith, pre.few)) first-allowed.ensures)
-
-pub returns : goal.returns
-returns c =
-    let loop = c.loop-v in
-    let args = c.args in
-    let e : loop.v ≡ args.n + 1 = omega arith in rw e at loop.invariant
