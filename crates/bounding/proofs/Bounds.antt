@@ -1,7 +1,7 @@
 -- The bounds are filled stage by stage. A minimum is at most each of its candidates, and a write changes one bound alone: so each stage keeps what holds so far, and
 -- adds its own inequalities. Assumes nothing.
 use Prim.Native.Nat.{ℕ, ◌+◌, ◌-◌, ◌*◌, ◌≤◌, ◌<◌, min}
-use mathlib.Core.Path.{◌≡◌, refl, sym, ◌∙◌, ap}
+use mathlib.Core.Path.{◌≡◌, sym, ◌∙◌, ap}
 use mathlib.Core.Logic.{◌≢◌}
 use mathlib.Core.Bool.{Bool, true, cond}
 use mathlib.Core.List.{List}
@@ -21,9 +21,9 @@ use Rattle.chain.specs.declared.Recoveries.{Recoveries}
 use Rattle.chain.proofs.Search.{reach_start, reach_cap, reach_lower}
 use Rattle.units.specs.Limits.{positions}
 use Rattle.bounds.specs.Working.Bounds.{time_start, risk_start, base_start, bounds_needed, square_at, bounds_in, apart_in}
-use Rattle.bounding.specs.Working.Stages.{Parts, Steps, Bases, Filled, After, Stage, Column, PutParts, LeastTime, LeastRisk, LeastBase, StepPut, ahead_length, Ahead, Looked, LeastAfter, OwnIs, StoppedIs, ReadyForAfter, ReadyForOwn}
+use Rattle.bounding.specs.Working.Stages.{Parts, Steps, Bases, Filled, After, Stage, Column, PutParts, LeastTime, LeastRisk, LeastBase, StepPut, Ahead, Looked, LeastAfter, OwnIs, StoppedIs, ReadyForAfter, ReadyForOwn}
 use Rattle.bounds.specs.Working.Bounds.{disk_in, since, BoundsOf, ReadyForSince}
-use Rattle.verifications.specs.Working.Rows.{Row, EndIs}
+use Rattle.verifications.specs.Working.Rows.{Row}
 use Rattle.table.specs.Working.Table.{cm_start, cd_start, rm_start, column, entry_of, chain_in, arrival_at, disk_recovery_cap, Bounded}
 use Rattle.bounds.proofs.Bounds.{slope_cap_lem, base_cap, time_entry, square_within, square_apart}
 

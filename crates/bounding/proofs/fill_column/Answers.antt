@@ -15,7 +15,6 @@ loop-d-init c =
     let kept = kept_put args.n args.b.now args.u args.u after_disk.result (omega arith) pre.start pre.bounded.few in
     rw put-square.ensures
     (record {
-      within = omega arith;
       column = column_first _ _ _ pre.start pre.bounded.few args.b.now _ pre.stage after_disk.ensures;
       looked = looked_kept _ _ _ args.b.now _ kept pre.bounded.few _ _ pre.looked;
       own_is = after_here args.n args.b.now args.u args.u _ (omega arith) pre.start pre.bounded.few pre.stage.filled.parts.long;
@@ -50,14 +49,13 @@ loop-d-preserved c =
     let own = loop.invariant.own_is in
     let x : lesser.result ≡ min (column cd_start args.t.now args.u + (bounds_in args.n loop.b).after args.u args.u) least-after.result = lesser.ensures ∙ rw (column-at.ensures, own) in
     let least = rw (since.ensures.value args.n) at least-after.ensures in
-    let kept = kept_put args.n loop.b loop.d args.u lesser.result loop.invariant.within pre.start pre.bounded.few in
+    let kept = kept_put args.n loop.b loop.d args.u lesser.result (omega arith) pre.start pre.bounded.few in
     let column-is =
     rw (← x) at (column_next _ _ _ pre.start pre.bounded.few args.ahead.now loop.b args.end loop.d least-after.result loop-test.true loop.invariant.column loop.invariant.looked least) in
     rw put-square2.ensures
     (record {
-      within = omega (arith, loop-test.true);
       column = column-is;
       looked = looked_kept _ _ _ loop.b _ kept pre.bounded.few _ _ loop.invariant.looked;
-      own_is = after_other args.n loop.b loop.d args.u _ loop.invariant.within pre.start pre.bounded.few args.u (λ e. omega (arith, loop-test.true)) ∙ own;
+      own_is = after_other args.n loop.b loop.d args.u _ (omega arith) pre.start pre.bounded.few args.u (λ e. omega (arith, loop-test.true)) ∙ own;
       same_long = kept.long ∙ loop.invariant.same_long;
     })

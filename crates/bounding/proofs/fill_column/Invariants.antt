@@ -2,13 +2,12 @@
 use mathlib.Core.Path.{◌≡◌}
 use mathlib.Core.List.{List}
 use lib.ListN.{length}
-use Prim.Native.Nat.{ℕ, ◌≤◌}
+use Prim.Native.Nat.{ℕ}
 use Rattle.bounding.specs.Working.Stages.{Looked, Column}
 use Rattle.bounds.specs.Working.Bounds.{bounds_in}
 use Rattle.bounding.proofs.fill_column.Given as goal
 
 pub record Column-to (b₀ ahead t : List ℕ) (u end n own : ℕ) (b : List ℕ) (d : ℕ) : Type 0 where
-  pub within : d ≤ u
   pub column : Column d u n t b
   pub looked : Looked b t u end n ahead
   pub own_is : (bounds_in n b).after u u ≡ own

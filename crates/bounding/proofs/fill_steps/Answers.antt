@@ -1,5 +1,5 @@
 use Prim.Native.Nat.{◌+◌}
-use mathlib.Core.Path.{◌≡◌, ◌∙◌, refl}
+use mathlib.Core.Path.{◌∙◌, refl}
 use native.Mathlib.Omega.{arith}
 use lib.ListN.{length-replicate}
 use Rattle.units.specs.Limits.{positions}
@@ -13,7 +13,6 @@ loop-m-init c =
     let pre = c.requires in
     let args = c.args in
     record {
-      within = omega arith;
       filled = filled_first args.n args.t.now args.b.now pre.long;
       row_long = length-replicate positions none;
       same_long = refl;
@@ -42,7 +41,6 @@ loop-m-preserved c =
     let fill-part = c.fill_part in
     let put_step = c.put_step in
     record {
-      within = omega arith;
       filled = filled_step _ _ _ _ _ pre.bounded.few (omega (arith, pre.bounded.few)) put_step.ensures fill-part.ensures.filled;
       row_long = fill-part.ensures.row_long;
       same_long = b2.given ∙ b.given ∙ loop.invariant.same_long;

@@ -1,8 +1,5 @@
-use Prim.Native.Nat.{◌<◌}
 use native.Mathlib.Omega.{arith}
 use Rattle.bounds.proofs.Bounds.{recovery_cap}
-use Rattle.bounding.proofs.Bounds.{at_most_next}
-use Rattle.bounding.proofs.least_after.Invariants.{candidate}
 use Rattle.bounding.proofs.least_after.Goals as goal
 
 pub overflow_add-ahead : goal.overflow_add-ahead
@@ -10,7 +7,7 @@ overflow_add-ahead c =
     let rounded-up = c.rounded_up in
     let pre = c.requires in
     let loop = c.loop-v in
-    rw rounded-up.ensures (omega (arith, pre.parts loop.v loop.invariant.after_u (omega arith), recovery_cap _ _ (pre.slopes loop.v loop.invariant.after_u (omega arith)) pre.recovery))
+    rw rounded-up.ensures (omega (arith, pre.parts loop.v (omega arith) (omega arith), recovery_cap _ _ (pre.slopes loop.v (omega arith) (omega arith)) pre.recovery))
 
 pub overflow_add-ahead-in-loop-v : goal.overflow_add-ahead-in-loop-v
 overflow_add-ahead-in-loop-v c =
@@ -18,6 +15,6 @@ overflow_add-ahead-in-loop-v c =
     let after = c.after in
     let pre = c.requires in
     let loop = c.loop-v in
-    let recovery = recovery_cap _ _ (pre.slopes loop.v loop.invariant.after_u (omega arith)) pre.recovery in
+    let recovery = recovery_cap _ _ (pre.slopes loop.v (omega arith) (omega arith)) pre.recovery in
     rw (rounded-up.ensures, after.ensures)
-    (omega (arith, pre.parts loop.v loop.invariant.after_u (omega arith), pre.afters loop.v loop.invariant.after_u (omega arith), recovery))
+    (omega (arith, pre.parts loop.v (omega arith) (omega arith), pre.afters loop.v (omega arith) (omega arith), recovery))

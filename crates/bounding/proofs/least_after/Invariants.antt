@@ -12,11 +12,9 @@ use Rattle.bounding.proofs.least_after.Given as goal
 abbrev pub candidate : (n : ℕ) → (ahead b : List ℕ) → (d x w : ℕ) → ℕ
 candidate n ahead b d x w = get_or ahead (2 * w) 0 + up (get_or ahead (2 * w + 1) 0 * x) + (bounds_in n b).after d w
 
-pub record Least (n : ℕ) (ahead b : List ℕ) (d x u end best v : ℕ) : Type 0 where
-  pub after_u : u < v
-  pub within : v ≤ end
+pub record Least (n : ℕ) (ahead b : List ℕ) (d x u best v : ℕ) : Type 0 where
   pub range : best ≤ none
   pub least : AtMost (λ w. u < w) (candidate n ahead b d x) v best
 
 abbrev pub invariant-loop-v : goal.invariant-loop-v
-invariant-loop-v l = Least l.n l.ahead l.b l.d l.x l.u l.end l.best l.v
+invariant-loop-v l = Least l.n l.ahead l.b l.d l.x l.u l.best l.v

@@ -6,7 +6,6 @@ use Rattle.bounding.proofs.Bounds.{AtMost}
 use Rattle.bounding.proofs.least_base.Given as goal
 
 pub record Least (b t : List ℕ) (v best d : ℕ) : Type 0 where
-  pub within : d ≤ v
   pub own : (n : ℕ) → best ≤ disk_in n t b v v
   pub others : (n : ℕ) → AtMost (λ w. 0 ≤ w) (λ w. disk_in n t b w v) d best
 

@@ -1,10 +1,6 @@
 use mathlib.Core.Path.{◌≡◌}
-use mathlib.Core.Bool.{true}
 use native.Mathlib.Omega.{arith}
 use Rattle.bounds.specs.Working.Bounds.{bounds_in}
-use Rattle.table.specs.Working.Table.{chain_in}
-use Rattle.bounding.proofs.Bounds.{at_most_next}
-use Rattle.bounding.proofs.least_risk.Invariants.{candidate}
 use Rattle.bounding.proofs.least_risk.Goals as goal
 
 pub returns : goal.returns
@@ -12,4 +8,4 @@ unfolding bounds_in
 returns c =
     let loop = c.loop-u in
     let args = c.args in
-    let e : loop.u ≡ args.v = omega (arith, loop.invariant.within) in record { range = loop.invariant.range; least = λ n w l a. loop.invariant.least w a (omega arith) }
+    let e : loop.u ≡ args.v = omega arith in record { range = loop.invariant.range; least = λ n w l a. loop.invariant.least w a (omega arith) }

@@ -15,7 +15,6 @@ abbrev pub candidate : (b t : List ℕ) → (v u : ℕ) → ℕ
 candidate b t v u = get_or b (risk_start + u) 0 + (apart_in t).stopped u v
 
 pub record Least (b t : List ℕ) (v best u : ℕ) : Type 0 where
-  pub within : u ≤ v
   pub range : best ≤ none
   pub least : AtMost (λ w. (chain_in t).allowed w v ≡ true) (candidate b t v) u best
 

@@ -32,7 +32,6 @@ loop-u-preserved c =
     let part = c.part in
     let column-at = c.column_at-copy in
     record {
-      within = omega arith;
       range = omega (arith, min.ensures, loop.invariant.range);
       least =
           rw min.ensures

@@ -12,7 +12,6 @@ abbrev pub candidate : (n : ℕ) → (b t : List ℕ) → (v u : ℕ) → ℕ
 candidate n b t v u = (bounds_in n b).time u + (bounds_in n b).part u v + column cm_start t v
 
 pub record Least (n : ℕ) (b t : List ℕ) (v best u : ℕ) : Type 0 where
-  pub within : u ≤ v
   pub range : best ≤ none
   pub least : AtMost (λ w. 0 ≤ w) (candidate n b t v) u best
 

@@ -7,8 +7,4 @@ loop-v-preserved c =
     let loop = c.loop-v in
     let put-square = c.put_square in
     let pre = c.requires in
-    record {
-      after_m = omega (arith, loop.invariant.after_m);
-      within = omega arith;
-      put = rw put-square.ensures (parts_more _ _ _ _ _ _ loop.invariant.put pre.long loop.invariant.after_m (omega arith));
-    }
+    rw put-square.ensures (parts_more _ _ _ _ _ _ loop.invariant pre.long (omega arith) (omega arith))

@@ -2,7 +2,7 @@ use Prim.Native.Nat.{◌+◌, ◌-◌}
 use mathlib.Core.Path.{◌≡◌, refl, ap}
 use native.Mathlib.Omega.{arith}
 use Rattle.chain.specs.declared.Recoveries.{Recoveries}
-use Rattle.copies.proofs.Copies.{passed_next, soonest_is, far_some, far_dead, far_none}
+use Rattle.copies.proofs.Copies.{passed_next, soonest_is, far_dead}
 use Rattle.bounds.proofs.Bounds.{base_cap}
 use Rattle.copies.proofs.far.Goals as goal
 

@@ -7,11 +7,6 @@ use Rattle.table.proofs.Table.{arrival_before}
 use Rattle.verifications.proofs.Rows.{arrival_ge, least_first, least_next, least_reached, row_capped}
 use Rattle.verifications.proofs.verified.Goals as goal
 
-pub first_of-requires : goal.first_of-requires
-first_of-requires c =
-    let pre = c.requires in
-    record { long = omega (arith, pre.ready.bounded.long); few = pre.ready.bounded.few }
-
 pub loop-u-init : goal.loop-u-init
 loop-u-init c =
     let pre = c.requires in
@@ -25,16 +20,6 @@ loop-u-init c =
       within = omega (arith, pre.ready.order, firsts.within args.v (omega arith));
       least_is = sym (least_first _ _ _ _ _ (λ j h. arrival_before _ _ _ _ _ (firsts.none_before j _ h (omega arith))));
     })
-
-pub offset_bounds-time-u : goal.offset_bounds-time-u
-offset_bounds-time-u c =
-    let pre = c.requires in
-    omega (arith, pre.ready.bounded.few, pre.end_before)
-
-pub bounds-time-u : goal.bounds-time-u
-bounds-time-u c =
-    let pre = c.requires in
-    omega (arith, pre.ready.bounded.few, pre.end_before, pre.ready.row.long)
 
 pub arrival-requires : goal.arrival-requires
 arrival-requires c =
