@@ -134,14 +134,6 @@ row_first N b cost time long h =
       times = λ v k l. let e : v ≡ b = omega arith in rw e (get_or-set_same time b 0 0 (omega (arith, long)) ∙ sym (reach_start N b cost));
     }
 
-pub row_next : (N b : ℕ) (cost : Cost) (e : ℕ) (time : List ℕ) (x : ℕ) → Row N b cost e time → e < positions → x ≡ reach N b cost e → Row N b cost (e + 1) (set time e x)
-row_next N b cost e time x row h is =
-    record { long = length-set time e x ∙ row.long; times = λ v k l. at v k l (ℕ_discrete v e) }
-  where
-    at : (v : ℕ) → b ≤ v → v < e + 1 → Dec (v ≡ e) → get_or (set time e x) v 0 ≡ reach N b cost v
-    at v k l (yes p) = rw p (get_or-set_same time e x 0 (omega (arith, row.long)) ∙ is)
-    at v k l (no p) = get_or-set_other time e v x 0 p ∙ row.times v k (omega arith)
-
 -- where the positions end that have a time, with one position more
 module _ (end v q r : ℕ) (at : EndIs q (v + 1) end r) where
   pub end_within : end ≤ v → r ≤ v + 1
