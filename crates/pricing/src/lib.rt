@@ -21,7 +21,6 @@ fn setting_time(job: Job, marks: &[u8]) -> u64
     requires { ReadyForTime job marks.now }
     ensures { result ≡ min none (time_of job marks.now) }
 {
-    let n = job.tasks;
     let weights = job.weights;
     let mut s = Progress {
         weight: 0,
@@ -31,7 +30,7 @@ fn setting_time(job: Job, marks: &[u8]) -> u64
         mt: 0,
         dt: 0,
     };
-    for j in 0..n {
+    for j in 0..job.tasks {
         s.weight += weights[j] as u64;
         s = past_mark(job, s, j + 1, marks[j]);
         if NONE <= s.dt + s.mt + s.q {

@@ -3,7 +3,7 @@
 use Rattle.progress.specs.declared.Progress.{Progress}
 use Rattle.job.specs.declared.Job.{Job}
 use mathlib.Core.List.{List}
-use Prim.Native.Nat.{ℕ, ◌+◌, ◌-◌, ◌≤◌, ◌<◌}
+use Prim.Native.Nat.{ℕ, ◌+◌, ◌≤◌, ◌<◌}
 use Rattle.units.specs.Limits.{none}
 use Rattle.pricing.proofs.Progresses.{Progresses}
 use Rattle.pricing.proofs.setting_time.Given as goal
