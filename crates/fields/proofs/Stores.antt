@@ -4,7 +4,7 @@ use mir.Syntax.{w32}
 use borrow.Rule.Slice.PartMut.{put_mid}
 use Rattle.std.specs.Int.{to_le_bytes}
 use mathlib.Core.Path.{◌≡◌, refl, ◌∙◌}
-use mathlib.Core.List.{List, [], ◌∷◌, ◌++◌, append-nil}
+use mathlib.Core.List.{List, [], ◌∷◌, ◌++◌, append-nil, append_assoc}
 use native.Mathlib.Numerals.{add-one}
 use native.Mathlib.Omega.{arith}
 use lib.ListN.{length, get_or, take, set}
@@ -29,7 +29,7 @@ pub field_stored : (b : List ℕ) (at x : ℕ) {bytes : List ℕ} → x < 2 ^ 32
 field_stored b at x h room e =
     let four : at + field_length - at ≡ field_length = omega arith in
     let long = length_field x in
-    rw (e ∙ field_bytes_low x h, four, sets-eq (field_bytes x) b at (omega (arith, room, long)), long, drop-drop) refl
+    rw (e ∙ field_bytes_low x h, four, sets-eq (field_bytes x) b at (omega (arith, room, long)), long, drop-drop, append_assoc) refl
 
 -- a second run that starts where the first ends
 pub sets_append : (l m b : List ℕ) (at next : ℕ) → next ≡ at + length l → sets (sets b at l) next m ≡ sets b at (l ++ m)
