@@ -2,8 +2,8 @@
 use Prim.Native.Nat.{ℕ, zero, suc, ◌<◌}
 use mathlib.Core.Path.{◌≡◌, refl, sym, ◌∙◌, ap}
 use native.Mathlib.Omega.{arith}
-use mathlib.Core.Bool.{false≢true}
-use Rattle.std.specs.Result.{IsErr}
+use mathlib.Core.Bool.{true, false, false≢true}
+use Rattle.std.specs.Result.{IsErr, is_err}
 use Rattle.std.proofs.Common.{Result, Ok, Err}
 use mathlib.Core.List.{List, ◌++◌}
 use Rattle.refusals.specs.Refusals.{Condition, Numbered, first}
@@ -72,3 +72,12 @@ answer_refused (Err refusal) time failed e = answered_refused time e (number_pos
 pub answer_refusal : (r : Result ℕ Refusal) {code : ℕ} → IsErr r → told r ≡ code → answer_of r ≡ refused code
 answer_refusal (Ok a) failed e = absurd (false≢true failed)
 answer_refusal (Err refusal) failed e = ap refused e
+
+-- a check by whether it refuses
+pub told_failed : {A : Type 0} (r : Result A Refusal) → is_err r ≡ true → 0 < told r
+told_failed (Ok a) e = absurd (false≢true e)
+told_failed (Err refusal) e = number_positive refusal
+
+pub told_passed : {A : Type 0} (r : Result A Refusal) → is_err r ≡ false → told r ≡ 0
+told_passed (Ok a) e = refl
+told_passed (Err refusal) e = absurd (false≢true (sym e))

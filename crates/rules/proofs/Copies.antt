@@ -1,6 +1,6 @@
 -- Laws of copies and weights up to a position. The last copy before position 1 is the start, whatever the marks. Assumes nothing.
-use Prim.Native.Nat.{ℕ, zero, suc, ◌+◌, ◌-◌, ◌≤◌, ◌<◌}
-use mathlib.Core.Path.{◌≡◌, refl, ap}
+use Prim.Native.Nat.{max, ℕ, zero, suc, ◌+◌, ◌-◌, ◌≤◌, ◌<◌}
+use mathlib.Core.Path.{◌≡◌, refl, ap, ◌∙◌}
 use mathlib.Core.Bool.{◌||◌}
 use mathlib.Core.List.{List}
 use native.Mathlib.Numerals.{add-one}
@@ -25,10 +25,25 @@ last_next k l j h = rw (add-one j) (last_here k (marks_of l) (suc j) h)
 pub last_kept : (k : ℕ) (l : List ℕ) (j : ℕ) → get_or l j 0 < k → last k (marks_of l) (suc (j + 1)) ≡ last k (marks_of l) (suc j)
 last_kept k l j h = rw (add-one j) (last_past k (marks_of l) (suc j) h)
 
--- where the search for it ends
-pub last_end : (k : ℕ) (f : Marks) (v j : ℕ) → j ≤ v - 1 → v ≤ j + 1 → last k f v ≡ last k f (suc j)
-last_end k f zero j h e = let z : j ≡ 0 = omega arith in rw z (omega (arith, last_le k f 0, last_first k f))
-last_end k f (suc v) j h e = ap (λ (n : ℕ). last k f (suc n)) (omega arith)
+-- the same over the position p
+pub last_at : (k : ℕ) (l : List ℕ) (p : ℕ) → 0 < p → k ≤ get_or l (p - 1) 0 → last k (marks_of l) (p + 1) ≡ p
+last_at k l zero h m = absurd (omega arith)
+last_at k l (suc j) h m =
+    let e : suc j - 1 ≡ j = omega arith in
+    let next : suc j + 1 ≡ suc (j + 1) = omega arith in
+    rw next (last_next k l j (rw e at m) ∙ add-one j)
+
+pub last_beyond : (k : ℕ) (l : List ℕ) (p : ℕ) → 0 < p → get_or l (p - 1) 0 < k → last k (marks_of l) (p + 1) ≡ last k (marks_of l) p
+last_beyond k l zero h m = absurd (omega arith)
+last_beyond k l (suc j) h m =
+    let e : suc j - 1 ≡ j = omega arith in
+    let next : suc j + 1 ≡ suc (j + 1) = omega arith in
+    rw next (last_kept k l j (rw e at m))
+
+-- where the search for it ends: at v, and at 1 where v is the start
+pub last_end : (k : ℕ) (f : Marks) (v p : ℕ) → 0 < p → v ≤ p → p ≤ max 1 v → last k f p ≡ last k f v
+last_end k f zero p h a b = let one : p ≡ 1 = omega arith in rw one (omega (arith, last_le k f 0, last_first k f))
+last_end k f (suc v) p h a b = ap (λ (n : ℕ). last k f n) (omega arith)
 
 -- what is kept once the weights after a copy have moved to redone
 pub move_kept : (w : List ℕ) {kept : ℕ} (c p : ℕ) → kept ≡ total w p → c ≤ p → kept - between w c p ≡ total w c

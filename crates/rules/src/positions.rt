@@ -6,17 +6,16 @@ ghost use Rattle.marks.specs.Marks.{marks_of};
 ghost use Rattle.rules.specs.Rules.{marks_in};
 ghost use Rattle.rules.specs.Working.Sound.{WeightIs};
 
-use job::totals::wide;
 use state::Run;
 
 // The weight of task j + 1; past the end of the weights it is 0.
 pub fn weight_at(weights: &[u32], j: usize) -> u64
     ensures { WeightIs weights.now j result }
 {
-    if weights.len() <= j {
-        return 0;
+    match weights.get(j) {
+        Some(&w) => u64::from(w),
+        None => 0,
     }
-    wide(weights[j])
 }
 
 // The start has no mark.
@@ -29,10 +28,10 @@ pub fn mark_at(marks: &[u8], p: usize) -> u8
     if p == 0 {
         return AT_START;
     }
-    if marks.len() < p {
-        return 0;
+    match marks.get(p - 1) {
+        Some(&mark) => mark,
+        None => 0,
     }
-    marks[p - 1]
 }
 
 // The last position before v with a mark of `least` or more, 0 if there is none.
@@ -41,12 +40,10 @@ pub fn last_copy(run: Run, least: u8, v: usize) -> usize
     ensures { result ≡ last least (marks_in run) v }
 {
     let mut found: usize = 0;
-    let mut j: usize = 0;
-    while j + 1 < v {
-        if least <= run.marks[j] {
-            found = j + 1;
+    for p in 1..v {
+        if least <= run.marks[p - 1] {
+            found = p;
         }
-        j += 1;
     }
     found
 }

@@ -22,47 +22,29 @@ all_added s = omega arith
 sum_below : (s : Sums) (k : ℕ) → k < 5 → get_or (sums_of s) k 0 ≤ total_of s
 sum_below s k h = omega (arith, total_more (sums_of s) k, total_mono (sums_of s) (k + 1) 5 (omega arith), all_added s)
 
-pub loop-k-init : goal.loop-k-init
+pub loop-part-init : goal.loop-part-init
 unfolding total
-loop-k-init c = record { to = omega arith; value = refl; range = omega arith }
+loop-part-init c = record { to = omega arith; value = refl; range = omega arith }
 
-pub offset_bounds-parts-k : goal.offset_bounds-parts-k
-offset_bounds-parts-k c = omega arith
-
-pub bounds-parts-k : goal.bounds-parts-k
-bounds-parts-k c = omega arith
-
-pub returns-then-parts-k-gt-MAX_TOTAL : goal.returns-then-parts-k-gt-MAX_TOTAL
+pub returns-then-part-gt-MAX_TOTAL : goal.returns-then-part-gt-MAX_TOTAL
 unfolding over_total
-returns-then-parts-k-gt-MAX_TOTAL c =
-    let loop = c.loop-k in
+returns-then-part-gt-MAX_TOTAL c =
+    let loop = c.loop-part in
     let args = c.args in
-    sym (lt-ltb total_limit (total_of args.sums) (omega (arith, sum_below args.sums loop.k (omega arith), c.if-parts-k-gt-MAX_TOTAL.true)))
-
-pub offset_bounds-parts-k-in-loop-k : goal.offset_bounds-parts-k-in-loop-k
-offset_bounds-parts-k-in-loop-k c = omega arith
-
-pub bounds-parts-k-in-loop-k : goal.bounds-parts-k-in-loop-k
-bounds-parts-k-in-loop-k c = omega arith
+    sym (lt-ltb total_limit (total_of args.sums) (omega (arith, sum_below args.sums loop.part-index (omega arith), c.if-part-gt-MAX_TOTAL.true)))
 
 pub overflow_add-total : goal.overflow_add-total
 overflow_add-total c = omega arith
 
-pub overflow_add-k : goal.overflow_add-k
-overflow_add-k c = omega arith
-
-pub loop-k-smaller : goal.loop-k-smaller
-loop-k-smaller c = omega arith
-
-pub loop-k-preserved : goal.loop-k-preserved
-loop-k-preserved c =
-    let loop = c.loop-k in
-    record { to = omega arith; value = rw total_more (rw loop.invariant.value); range = omega (arith, loop.invariant.range, c.if-parts-k-gt-MAX_TOTAL.false) }
+pub loop-part-preserved : goal.loop-part-preserved
+loop-part-preserved c =
+    let loop = c.loop-part in
+    record { to = omega arith; value = rw total_more (rw loop.invariant.value); range = omega (arith, loop.invariant.range, c.if-part-gt-MAX_TOTAL.false) }
 
 pub returns : goal.returns
 unfolding over_total
 returns c =
-    let loop = c.loop-k in
+    let loop = c.loop-part in
     let args = c.args in
-    let e : loop.k ≡ 5 = omega (arith, loop.invariant.to) in
+    let e : loop.part-index ≡ 5 = omega (arith, loop.invariant.to) in
     rw (loop.invariant.value, e, all_added args.sums)

@@ -1,5 +1,5 @@
 -- `rules::over_total` meets its contract. The loop's invariant: the total of the sums passed, none of which is above the limit, so that five of them cannot
--- wrap; one alone above it takes the total above it. The measure is what is left of the five. Assumes nothing.
+-- wrap; one alone above it takes the total above it.  Assumes nothing.
 use Prim.Native.Nat.{ℕ, ◌-◌, ◌*◌, ◌≤◌}
 use mathlib.Core.Path.{◌≡◌}
 use mathlib.Core.List.{List}
@@ -12,8 +12,5 @@ pub record Added (parts : List ℕ) (sum k : ℕ) : Type 0 where
   pub value : sum ≡ total parts k
   pub range : sum ≤ k * total_limit
 
-abbrev pub invariant-loop-k : goal.invariant-loop-k
-invariant-loop-k l = Added l.parts l.total l.k
-
-abbrev pub decreases-loop-k : goal.decreases-loop-k
-decreases-loop-k l = 5 - l.k
+abbrev pub invariant-loop-part : goal.invariant-loop-part
+invariant-loop-part l = Added l.part-items l.total l.part-index

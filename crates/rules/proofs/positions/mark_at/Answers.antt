@@ -1,7 +1,9 @@
 -- `rules::positions::mark_at` meets its contract. A position after the start has the mark of the task that ends there, or 0 past the end. Assumes nothing.
-use lib.ListN.{get_or-eq_default}
-use mathlib.Core.Path.{sym, ◌∙◌}
+use mathlib.Core.Path.{◌≡◌, sym, ◌∙◌}
 use native.Mathlib.Omega.{arith}
+use Prim.Native.Nat.{◌-◌, ◌≤◌}
+use lib.ListN.{length, get_or, get_or-eq_default}
+use Rattle.std.proofs.Common.{rules}
 use Rattle.marks.proofs.Stretches.{mark_at}
 use Rattle.rules.proofs.positions.mark_at.Goals as goal
 
@@ -10,13 +12,12 @@ returns-then-p-eq0 c =
     let if1 = c.if-p-eq0 in
     rw if1.true
 
-pub returns-then-marks-p : goal.returns-then-marks-p
-returns-then-marks-p c =
-    let args = c.args in
-    let past = c.if-marks-p.true in
-    sym (get_or-eq_default args.marks.now 0 (omega (arith, past))) ∙ sym (mark_at args.marks.now args.p (omega (arith, past)))
+pub returns-in-Some : goal.returns-in-Some
+returns-in-Some c =
+    let there : c.in-Some.field-0.now ≡ get_or c.args.marks.now (c.args.p - 1) 0 = search rules in
+    there ∙ sym (mark_at c.args.marks.now c.args.p (omega arith))
 
-pub returns : goal.returns
-returns c =
-    let args = c.args in
-    sym (mark_at args.marks.now args.p (omega arith))
+pub returns-in-None : goal.returns-in-None
+returns-in-None c =
+    let past : length c.args.marks.now ≤ c.args.p - 1 = search rules in
+    sym (get_or-eq_default c.args.marks.now 0 past) ∙ sym (mark_at c.args.marks.now c.args.p (omega arith))
