@@ -8,8 +8,7 @@ ghost use Rattle.following.specs.Working.Lent.{lent_run, OverWeight, carrying, a
 use carried::{Carried, Saved, over_mark};
 use events::{Event, after_done, after_failed, after_passed, after_stopped};
 use job::Platform;
-use job::totals::wide;
-use refusals::{ACCEPTED, FINISHED, OUT_OF_TURN, OVER_TOTAL, OVER_WEIGHT};
+use refusals::Refusal;
 use rules::positions::{mark_at, weight_at};
 use rules::{finished, over_total};
 use state::{Place, Run};
@@ -20,13 +19,6 @@ use state::{Place, Run};
 pub struct Stepped {
     pub number: u64,
     pub run: Run,
-}
-
-// The answer to an event: 0 and what is carried on, or the refusal.
-#[derive(Clone, Copy)]
-pub struct Moved {
-    pub number: u64,
-    pub carried: Carried,
 }
 
 pub fn answered(number: u64, run: Run) -> Stepped
@@ -55,7 +47,7 @@ fn over_weight(weights: &[u32], position: usize, event: Event) -> bool
         Event::Done => false,
         Event::Passed => false,
         Event::Failed => false,
-        Event::Stopped(lost) => weight_at(weights, position) < wide(lost),
+        Event::Stopped(lost) => weight_at(weights, position) < u64::from(lost),
     }
 }
 
@@ -70,20 +62,14 @@ fn carrying(place: Place, memory: Saved, disk: Saved) -> Carried
 }
 
 // The run arrives at the next place, unless the new total would pass the limit.
-fn arrived(before: Carried, next: Carried) -> Moved
-    ensures { result ≡ arrived before next }
+fn arrived(next: Carried) -> Result<Carried, Refusal>
+    ensures { result ≡ arrived next }
 {
     let place = next.place;
     if over_total(place.sums) {
-        return Moved {
-            number: OVER_TOTAL,
-            carried: before,
-        };
+        return Err(Refusal::OverTotal);
     }
-    Moved {
-        number: ACCEPTED,
-        carried: next,
-    }
+    Ok(next)
 }
 
 // One event of a run that 21 accepts: what is carried on, or the first refusal among 22 to 25. A passed mark may save copies, and a stop loses what memory held after
@@ -95,7 +81,7 @@ pub fn step(
     marks: &[u8],
     carried: Carried,
     event: Event,
-) -> Moved
+) -> Result<Carried, Refusal>
     requires { ReadyForEvent (lent_run tasks platform weights.now marks.now carried) carried }
     ensures { Moves (lent_run tasks platform weights.now marks.now carried) event result }
 {
@@ -103,43 +89,23 @@ pub fn step(
     let memory = carried.memory;
     let disk = carried.disk;
     if finished(tasks, place) {
-        return Moved {
-            number: FINISHED,
-            carried,
-        };
+        return Err(Refusal::Finished);
     }
     if out_of_turn(place.awaiting, event) {
-        return Moved {
-            number: OUT_OF_TURN,
-            carried,
-        };
+        return Err(Refusal::OutOfTurn);
     }
     if over_weight(weights, place.position, event) {
-        return Moved {
-            number: OVER_WEIGHT,
-            carried,
-        };
+        return Err(Refusal::OverWeight);
     }
-    match event {
-        Event::Done => arrived(
+    let next = match event {
+        Event::Done => carrying(after_done(weights, marks, place), memory, disk),
+        Event::Passed => over_mark(
+            mark_at(marks, place.position),
             carried,
-            carrying(after_done(weights, marks, place), memory, disk),
+            after_passed(platform, marks, place),
         ),
-        Event::Passed => arrived(
-            carried,
-            over_mark(
-                mark_at(marks, place.position),
-                carried,
-                after_passed(platform, marks, place),
-            ),
-        ),
-        Event::Failed => arrived(
-            carried,
-            carrying(after_failed(platform, place, memory), memory, disk),
-        ),
-        Event::Stopped(lost) => arrived(
-            carried,
-            carrying(after_stopped(platform, place, disk, lost), disk, disk),
-        ),
-    }
+        Event::Failed => carrying(after_failed(platform, place, memory), memory, disk),
+        Event::Stopped(lost) => carrying(after_stopped(platform, place, disk, lost), disk, disk),
+    };
+    arrived(next)
 }

@@ -1,7 +1,9 @@
 -- A step over lent weights and marks, from a state that 21 accepts.
-use Rattle.std.specs.Prelude.{ℕ, ◌≡◌, Bool, false, cond, List, eqb}
-use Rattle.refusals.specs.Numbers
+use Rattle.std.specs.Prelude.{ℕ, ◌≡◌, Bool, false, cond, List, eqb, Result, Ok, Err, IfOk}
 use Rattle.refusals.specs.Refusals.{first}
+use Rattle.refusals.specs.Checks.{told}
+use Rattle.refusals.specs.declared.Refusal.{Refusal}
+use Rattle.refusals.specs.declared.Refusal.TheVariants.{OverTotal}
 use Rattle.job.specs.declared.Platform.{Platform}
 use Rattle.state.specs.declared.Place.{Place}
 use Rattle.state.specs.declared.Run.{Run}
@@ -12,7 +14,6 @@ use Rattle.carried.specs.declared.Carried.{Carried}
 use Rattle.events.specs.declared.Event.{Event}
 use Rattle.following.specs.Run.{over_weight, event_conditions, next_place, standing, accepted, refused}
 use Rattle.following.specs.declared.Stepped.{Stepped}
-use Rattle.following.specs.declared.Moved.{Moved}
 
 -- the state that is lent in parts
 abbrev pub lent_run : (tasks : ℕ) → Platform → (weights marks : List ℕ) → Carried → Run
@@ -26,12 +27,9 @@ OverWeight weights position event r = (run : Run) → run.job.weights ≡ weight
 abbrev pub carrying : Place → (memory disk : Saved) → Carried
 carrying place memory disk = record { place = place; memory = memory; disk = disk }
 
-abbrev pub moved : ℕ → Carried → Moved
-moved number carried = record { number = number; carried = carried }
-
 -- what is carried where the run arrives, unless the new total would pass the limit
-abbrev pub arrived : (before next : Carried) → Moved
-arrived before next = cond (over_total next.place.sums) (moved Numbers.over_total before) (moved Numbers.accepted next)
+abbrev pub arrived : (next : Carried) → Result Carried Refusal
+arrived next = cond (over_total next.place.sums) (Err OverTotal) (Ok next)
 
 -- a state that 21 accepts, and what is carried of it
 pub record ReadyForEvent (run : Run) (c : Carried) : Type 0 where
@@ -47,6 +45,6 @@ unfoldable pub step_on : Run → Event → Stepped
 step_on run event = cond (eqb (event_refusal run event) 0) (accepted (standing run (next_place run event))) (refused (event_refusal run event) run)
 
 -- the answer of a step: its number, and what is carried on of the next state
-pub record Moves (run : Run) (event : Event) (m : Moved) : Type 0 where
-  pub number : m.number ≡ event_refusal run event
-  pub carries : m.number ≡ 0 → Carries (standing run (next_place run event)) m.carried
+pub record Moves (run : Run) (event : Event) (r : Result Carried Refusal) : Type 0 where
+  pub number : told r ≡ event_refusal run event
+  pub carries : IfOk r (Carries (standing run (next_place run event)))
