@@ -21,7 +21,7 @@ use Rattle.state.specs.declared.Place.{Place}
 use Rattle.state.specs.declared.Run.{Run}
 use Rattle.events.specs.declared.Event.{Event}
 use Rattle.following.specs.declared.Stepped.{Stepped}
-use Rattle.following.specs.declared.Moved.{Moved}
+use Rattle.logs.specs.declared.Outcome.{Outcome}
 use Rattle.logs.specs.Log.{record_count, record_at, bad_record, event_of, recorded, applied, or_before, empty_log, log_of}
 use Rattle.logs.specs.Working.Once.{bad_first, refusal_before, recorded_on, applied_on, Ends}
 use Rattle.logs.proofs.Records.{recorded_bad, recorded_event, recorded_accepted, applied_suc, applied_stays, applied_first}
@@ -160,6 +160,6 @@ module _ (run : Run) (log : List ℕ) (k : ℕ) where
   ends_accepted state e = rw e
 
   -- a run that was taken up at its own place
-  pub ends_own : (m : Moved) (place : Place) → place ≡ run.place → Ends (standing run place) log k m
+  pub ends_own : (m : Outcome) (place : Place) → place ≡ run.place → Ends (standing run place) log k m
       → answered m.number (standing run m.carried.place) ≡ or_before run (applied_on run log k)
   ends_own m place own ends = rw (← own) ends

@@ -3,16 +3,17 @@
 
 ghost use Rattle.std.specs.Prelude.{◌≡◌, ◌<◌, false};
 ghost use Rattle.rules.specs.Rules.{broken};
-ghost use Rattle.following.specs.Working.Lent.{lent_run, ReadyForEvent, moved};
+ghost use Rattle.following.specs.Working.Lent.{lent_run, ReadyForEvent};
+ghost use Rattle.refusals.specs.Checks.{told};
 ghost use Rattle.logs.specs.Log.{record_count, record_at, bad_record, event_of, or_before, log_of};
-ghost use Rattle.logs.specs.Working.Once.{bad_first, refusal_before, applied_on, Ends};
+ghost use Rattle.logs.specs.Working.Once.{bad_first, refusal_before, applied_on, ended, Ends};
 
 use carried::{Carried, taken_up};
 use events::Event;
 use fields::{byte, field};
-use following::{Moved, Stepped, answered, step};
+use following::{Stepped, answered, step};
 use job::Platform;
-use refusals::{ACCEPTED, BAD_RECORD, BROKEN};
+use refusals::{ACCEPTED, Refusal};
 use rules::broken;
 use state::Run;
 
@@ -86,10 +87,18 @@ fn bad_first(log: &[u8]) -> bool
     bad_record(record_at(log, 0))
 }
 
-fn ended(number: u64, carried: Carried) -> Moved
-    ensures { result ≡ moved number carried }
+// The answer to the records of a log: 0 and what is carried at their end, or the number of the refusal and what was carried at the start. The two stand side by side
+// and are no Result, since a refused log hands back a place too (must-fail edits bad_record_place_handed_back, refused_place_handed_back).
+#[derive(Clone, Copy)]
+struct Outcome {
+    number: u64,
+    carried: Carried,
+}
+
+fn ended(number: u64, carried: Carried) -> Outcome
+    ensures { result ≡ ended number carried }
 {
-    Moved { number, carried }
+    Outcome { number, carried }
 }
 
 // The records in turn, from a run that 21 accepts: what is carried at their end, or the first refusal among 12 and 22 to 25 and what was carried at the start.
@@ -100,24 +109,22 @@ fn applied(
     marks: &[u8],
     start: Carried,
     log: &[u8],
-) -> Moved
+) -> Outcome
     requires { ReadyForEvent (lent_run tasks platform weights.now marks.now start) start }
     ensures { Ends (lent_run tasks platform weights.now marks.now start) log.now (record_count log.now) result }
 {
     let count = (log.len() + (RECORD_LENGTH - 1)) / RECORD_LENGTH;
     let mut carried = start;
-    let mut i: usize = 0;
-    while i < count {
+    for i in 0..count {
         let entry = record_at(log, i);
         if bad_record(entry) {
-            return ended(BAD_RECORD, start);
+            return ended(Refusal::BadRecord.number(), start);
         }
         let moved = step(tasks, platform, weights, marks, carried, event_of(entry));
-        if moved.number != 0 {
-            return ended(moved.number, start);
+        match moved {
+            Ok(next) => carried = next,
+            Err(refusal) => return ended(refusal.number(), start),
         }
-        carried = moved.carried;
-        i += 1;
     }
     ended(ACCEPTED, carried)
 }
@@ -141,25 +148,24 @@ fn followed(run: Run, log: &[u8]) -> Stepped
 }
 
 // What is tested before the first event, even for an empty log: 12 of the first record, then 21.
-pub fn refusal_before(run: Run, log: &[u8]) -> u64
-    ensures { result ≡ refusal_before run log.now }
+pub fn check_first(run: Run, log: &[u8]) -> Result<(), Refusal>
+    ensures { told result ≡ refusal_before run log.now }
 {
     if bad_first(log) {
-        return BAD_RECORD;
+        return Err(Refusal::BadRecord);
     }
     if broken(run) {
-        return BROKEN;
+        return Err(Refusal::Broken);
     }
-    ACCEPTED
+    Ok(())
 }
 
 // The records of a log, read and applied in turn: the state after them, or the first refusal and the state from before the log.
 pub fn follow(run: Run, log: &[u8]) -> Stepped
     ensures { result ≡ log_of run log.now }
 {
-    let number = refusal_before(run, log);
-    if number != 0 {
-        return answered(number, run);
+    if let Err(refusal) = check_first(run, log) {
+        return answered(refusal.number(), run);
     }
     followed(run, log)
 }

@@ -1,5 +1,7 @@
 use Prim.Native.Nat.{◌-◌}
-use mathlib.Core.Path.{◌≡◌, refl, sym, ◌∙◌}
+use mathlib.Core.Path.{◌≡◌, refl, sym, ◌∙◌, ap}
+use Rattle.refusals.specs.Checks.{told}
+use Rattle.refusals.proofs.Checks.{number_positive}
 use native.Mathlib.Omega.{arith}
 use Rattle.carried.proofs.Copies.{carries_own}
 use Rattle.following.specs.Run.{standing}
@@ -38,43 +40,31 @@ returns-then-bad_record c =
     let answer =
     on_bad run args.log.now c.requires.unbroken loop.i _ loop.invariant.leads
     (rw (← record-at.ensures) (sym tested.ensures ∙ if1.true)) _ loop-test.true in
-    rw ended.ensures (ends_refused run args.log.now _ _ _ answer (λ z. omega (arith, z)))
+    rw (ended.ensures, c.number.ensures) (ends_refused run args.log.now _ _ _ answer (λ z. omega (arith, z)))
 
 pub step-moved-requires : goal.step-moved-requires
 step-moved-requires c =
     let loop = c.loop-i in
     loop.invariant.ready
 
-pub returns-then-moved-ne0 : goal.returns-then-moved-ne0
+pub returns-in-Err : goal.returns-in-Err
 unfolding record_count
-returns-then-moved-ne0 c =
-    let ended = c.ended-then-moved-ne0 in
-    let if2 = c.if-moved-ne0 in
-    let step = c.step-moved in
-    let event-of = c.event_of in
-    let if1 = c.if-bad_record in
-    let tested = c.bad_record in
-    let record-at = c.record_at-entry in
-    let loop-test = c.loop-i-test in
-    let loop = c.loop-i in
+returns-in-Err c =
     let args = c.args in
+    let loop = c.loop-i in
+    let record-at = c.record_at-entry in
+    let good = sym c.bad_record.ensures ∙ c.if-bad_record.false in
+    let event-of = c.event_of in
     let run = lent_run args.tasks args.platform args.weights.now args.marks.now args.start in
-    let refused : event_refusal (standing run loop.carried.place) event-of.result ≡ 0 → ⊥ = rw (← step.ensures.number) if2.true in
+    let code = c.number-in-Err.ensures ∙ (sym (ap told c.in-Err.is) ∙ c.step-moved.ensures.number) in
+    let refused : event_refusal (standing run loop.carried.place) event-of.result ≡ 0 → ⊥ = λ z. omega (arith, z, code, number_positive c.in-Err.refusal, c.number-in-Err.ensures) in
     let answer =
     on_refused run args.log.now c.requires.unbroken loop.i _ loop.invariant.leads event-of.result
-    (rw (← record-at.ensures) (sym tested.ensures ∙ if1.false)) (rw (← record-at.ensures) event-of.ensures) refused _ loop-test.true in
-    rw (ended.ensures, step.ensures.number) (ends_refused run args.log.now _ _ _ answer refused)
-
-pub overflow_add-i : goal.overflow_add-i
-overflow_add-i c =
-    omega arith
-
-pub loop-i-smaller : goal.loop-i-smaller
-loop-i-smaller c = omega arith
+    (rw (← record-at.ensures) good) (rw (← record-at.ensures) event-of.ensures) refused _ c.loop-i-test.true in
+    rw (c.ended-in-Err.ensures, code) (ends_refused run args.log.now _ _ _ answer refused)
 
 pub loop-i-preserved : goal.loop-i-preserved
 loop-i-preserved c =
-    let if2 = c.if-moved-ne0 in
     let step = c.step-moved in
     let event-of = c.event_of in
     let if1 = c.if-bad_record in
@@ -84,8 +74,8 @@ loop-i-preserved c =
     let args = c.args in
     let run = lent_run args.tasks args.platform args.weights.now args.marks.now args.start in
     let state = standing run loop.carried.place in
-    let carries = step.ensures.carries if2.false in
-    let none = sym step.ensures.number ∙ if2.false in
+    let carries = rw c.in-Ok.is at step.ensures.carries in
+    let none = sym step.ensures.number ∙ ap told c.in-Ok.is in
     record {
       within = omega (arith, c.loop-i-test.true);
       leads =

@@ -17,6 +17,3 @@ pub record Followed (run : Run) (log : List ℕ) (count : ℕ) (carried : Carrie
 
 abbrev pub invariant-loop-i : goal.invariant-loop-i
 invariant-loop-i l = Followed (lent_run l.tasks l.platform l.weights l.marks l.start) l.log l.count l.carried l.i
-
-abbrev pub decreases-loop-i : goal.decreases-loop-i
-decreases-loop-i l = l.count - l.i

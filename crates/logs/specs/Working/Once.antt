@@ -7,7 +7,8 @@ use Rattle.following.specs.Run.{standing, answered, accepted, refused}
 use Rattle.following.specs.Working.Lent.{step_on}
 use Rattle.state.specs.declared.Run.{Run}
 use Rattle.following.specs.declared.Stepped.{Stepped}
-use Rattle.following.specs.declared.Moved.{Moved}
+use Rattle.carried.specs.declared.Carried.{Carried}
+use Rattle.logs.specs.declared.Outcome.{Outcome}
 use Rattle.logs.specs.Log.{record_at, bad_record, event_of, or_before}
 
 -- 12 of the first record
@@ -27,6 +28,10 @@ unfoldable pub applied_on : Run → List ℕ → ℕ → Stepped
 applied_on run log zero = accepted run
 applied_on run log (suc k) = recorded_on (applied_on run log k) (record_at log k)
 
+-- the answer to the records: a number, and what is carried
+abbrev pub ended : ℕ → Carried → Outcome
+ended number carried = record { number = number; carried = carried }
+
 -- the records before k lead to this number and place; refused, to the place from before them
-abbrev pub Ends : Run → List ℕ → (k : ℕ) → Moved → Type 0
+abbrev pub Ends : Run → List ℕ → (k : ℕ) → Outcome → Type 0
 Ends run log k m = answered m.number (standing run m.carried.place) ≡ or_before run (applied_on run log k)

@@ -1,8 +1,8 @@
--- `logs::refusal_before` meets its contract: 12 of the first record, then 21. Assumes nothing.
+-- `logs::check_first` meets its contract: 12 of the first record, then 21. Assumes nothing.
 use mathlib.Core.Path.{sym, ◌∙◌}
 use Rattle.refusals.specs.Refusals.{first}
 use Rattle.logs.specs.Working.Once.{refusal_before}
-use Rattle.logs.proofs.refusal_before.Goals as goal
+use Rattle.logs.proofs.check_first.Goals as goal
 
 pub returns-then-bad_first : goal.returns-then-bad_first
 unfolding refusal_before first
