@@ -1,7 +1,7 @@
 -- Laws of texts of digits, of the numbers that they give, and of a list that a loop fills from the front. Assumes nothing.
 use Prim.Native.Nat.{ℕ, ◌+◌, ◌-◌, ◌*◌, ◌≤◌, ◌<◌}
 use mathlib.Core.Path.{◌≡◌, refl, ◌∙◌, sym, ap}
-use Rattle.std.specs.Prelude.{Some, None}
+use Rattle.std.specs.Prelude.{Some, None, min}
 use mathlib.Core.Bool.{Bool, true, false, not, or-true, and-false, true≢false, false≢true}
 use mathlib.Core.List.{List}
 use native.Mathlib.Decide.{ℕ_discrete, dec_le}
@@ -68,6 +68,14 @@ within_word x h = rw (le-ltb word_most x h)
 pub past_word : (x : ℕ) → word_most < x → in_word x ≡ word_most
 unfolding in_word
 past_word x h = rw (lt-ltb word_most x h)
+
+-- the greatest of 64 bits, as saturating operations keep it
+pub word_least : (n d : ℕ) → min (min (n * 10) word_most + d) word_most ≡ in_word (base * n + d)
+word_least n d = go (dec_le (base * n + d) word_most)
+  where
+    go : Dec (base * n + d ≤ word_most) → min (min (n * 10) word_most + d) word_most ≡ in_word (base * n + d)
+    go (yes h) = rw (within_word (base * n + d) h) (omega arith)
+    go (no h) = rw (past_word (base * n + d) (omega arith)) (omega arith)
 
 -- one digit more of a number that may have passed 64 bits
 word_digit : (x d : ℕ) → in_word (base * in_word x + d) ≡ in_word (base * x + d)

@@ -10,9 +10,6 @@ const ZERO: u8 = b'0';
 // Digits are decimal.
 const BASE: u64 = 10;
 
-// The greatest number of 64 bits.
-const WORD_MOST: u64 = u64::MAX;
-
 // Whether every byte of the text is a digit.
 fn is_digits(text: &[u8]) -> bool
     ensures { result ≡ not (some (length text.now) (no_digit text.now)) }
@@ -46,11 +43,7 @@ fn with_digit(n: u64, digit: u8) -> u64
     requires { digit < base }
     ensures { result ≡ in_word (base * n + digit) }
 {
-    let digit = digit as u64;
-    if (WORD_MOST - digit) / BASE < n {
-        return WORD_MOST;
-    }
-    BASE * n + digit
+    n.saturating_mul(BASE).saturating_add(digit as u64)
 }
 
 // The number that a text of digits gives.
