@@ -11,9 +11,5 @@ pub fn copy_marks(buffer: &mut [u8], marks: [u8; TASK_LIMIT], n: usize)
     requires { ReadyToCopy buffer.old n }
     ensures { buffer.new ≡ take n marks ++ drop n buffer.old }
 {
-    let mut j: usize = 0;
-    while j < n {
-        buffer[j] = marks[j];
-        j += 1;
-    }
+    buffer[..n].copy_from_slice(&marks[..n]);
 }

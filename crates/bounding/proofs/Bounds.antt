@@ -1,7 +1,7 @@
 -- The bounds are filled stage by stage. A minimum is at most each of its candidates, and a write changes one bound alone: so each stage keeps what holds so far, and
 -- adds its own inequalities. Assumes nothing.
 use Prim.Native.Nat.{ℕ, ◌+◌, ◌-◌, ◌*◌, ◌≤◌, ◌<◌, min}
-use mathlib.Core.Path.{◌≡◌, refl, sym, ◌∙◌, ap}
+use mathlib.Core.Path.{◌≡◌, sym, ◌∙◌, ap}
 use mathlib.Core.Logic.{◌≢◌}
 use mathlib.Core.Bool.{Bool, true, cond}
 use mathlib.Core.List.{List}
@@ -21,9 +21,9 @@ use Rattle.chain.specs.declared.Recoveries.{Recoveries}
 use Rattle.chain.proofs.Search.{reach_start, reach_cap, reach_lower}
 use Rattle.units.specs.Limits.{positions}
 use Rattle.bounds.specs.Working.Bounds.{time_start, risk_start, base_start, bounds_needed, square_at, bounds_in, apart_in}
-use Rattle.bounding.specs.Working.Stages.{Parts, Steps, Bases, Filled, After, Stage, Column, PutParts, LeastTime, LeastRisk, LeastBase, StepPut, ahead_length, Ahead, Looked, LeastAfter, OwnIs, StoppedIs, ReadyForAfter, ReadyForOwn}
+use Rattle.bounding.specs.Working.Stages.{Parts, Steps, Bases, Filled, After, Stage, Column, PutParts, LeastTime, LeastRisk, LeastBase, StepPut, Ahead, Looked, LeastAfter, OwnIs, StoppedIs, ReadyForAfter, ReadyForOwn}
 use Rattle.bounds.specs.Working.Bounds.{disk_in, since, BoundsOf, ReadyForSince}
-use Rattle.verifications.specs.Working.Rows.{Row, EndIs}
+use Rattle.verifications.specs.Working.Rows.{Row}
 use Rattle.table.specs.Working.Table.{cm_start, cd_start, rm_start, column, entry_of, chain_in, arrival_at, disk_recovery_cap, Bounded}
 use Rattle.bounds.proofs.Bounds.{slope_cap_lem, base_cap, time_entry, square_within, square_apart}
 
@@ -32,10 +32,10 @@ abbrev pub AtMost : (P : ℕ → Type 0) (f : ℕ → ℕ) (e x : ℕ) → Type 
 AtMost P f e x = (w : ℕ) → P w → w < e → x ≤ f w
 
 module _ (P : ℕ → Type 0) (f : ℕ → ℕ) (e x : ℕ) (h : AtMost P f e x) where
-  pub at_most_next : (y : ℕ) → (P e → y ≡ f e) → AtMost P f (e + 1) (min y x)
+  pub at_most_next : (y : ℕ) → (P e → y ≡ f e) → AtMost P f (e + 1) (min x y)
   at_most_next y is w p l = go (ℕ_discrete w e)
     where
-      go : Dec (w ≡ e) → min y x ≤ f w
+      go : Dec (w ≡ e) → min x y ≤ f w
       go (yes i) = rw i (omega (arith, is (rw i at p)))
       go (no i) = omega (arith, h w p (omega arith))
 
@@ -60,10 +60,6 @@ module _ (n : ℕ) (b : List ℕ) (i x : ℕ) where
   pub after_kept : (d u : ℕ) → i ≢ square_at n d u → (bounds_in n (set b i x)).after d u ≡ (bounds_in n b).after d u
   unfolding bounds_in
   after_kept d u h = get_or-set_other b i (square_at n d u) x 0 (λ e. h (sym e))
-
--- the parts from m
-pub parts_none : (n : ℕ) (b q : List ℕ) (m : ℕ) → PutParts n b q m (m + 1) b
-parts_none n b q m = record { long = refl; here = λ v a k. absurd (omega arith); columns = λ i h. refl; others = λ u v n a k. refl }
 
 pub parts_more : (n : ℕ) (b q : List ℕ) (m e : ℕ) (b' : List ℕ) → PutParts n b q m e b' → bounds_needed n ≤ length b → m < e → e ≤ n
     → PutParts n b q m (e + 1) (set b' (square_at n e m) (get_or q e 0))
@@ -356,48 +352,6 @@ bases_cap n e t b u bounded bases h l = base_cap n t b u (bases.low u u (omega a
 abbrev pub Past : (ahead : List ℕ) (end e : ℕ) → Type 0
 Past ahead end e = (v : ℕ) → end ≤ v → v < e → none ≤ get_or ahead (2 * v) 0
 
--- what lies ahead of u
-pub ahead_none : (n : ℕ) (b t : List ℕ) (u : ℕ) (ahead : List ℕ) → length ahead ≡ ahead_length → Ahead n b t u (u + 1) ahead
-ahead_none n b t u ahead h = record { long = h; parts = λ v a k. absurd (omega arith); slopes = λ v a k. absurd (omega arith) }
-
-pub ahead_more : (n : ℕ) (b t : List ℕ) (u e : ℕ) (ahead : List ℕ) (x y : ℕ) → Ahead n b t u e ahead → e < positions
-    → x ≡ (bounds_in n b).part u e + column cm_start t e → y ≡ slope (bounds_in n b) u e → Ahead n b t u (e + 1) (set (set ahead (2 * e) x) (2 * e + 1) y)
-ahead_more n b t u e ahead x y a few p s =
-    record {
-      long = length-set (set ahead (2 * e) x) (2 * e + 1) y ∙ long ∙ a.long;
-      parts = λ v h l. parts v h l (ℕ_discrete v e);
-      slopes = λ v h l. slopes v h l (ℕ_discrete v e);
-    }
-  where
-    long : length (set ahead (2 * e) x) ≡ length ahead
-    long = length-set ahead (2 * e) x
-
-    other : (i : ℕ) → i ≢ 2 * e → i ≢ 2 * e + 1 → get_or (set (set ahead (2 * e) x) (2 * e + 1) y) i 0 ≡ get_or ahead i 0
-    other i k l = get_or-set_other (set ahead (2 * e) x) (2 * e + 1) i y 0 l ∙ get_or-set_other ahead (2 * e) i x 0 k
-
-    parts : (v : ℕ) → u < v → v < e + 1 → Dec (v ≡ e) → get_or (set (set ahead (2 * e) x) (2 * e + 1) y) (2 * v) 0 ≡ (bounds_in n b).part u v + column cm_start t v
-    parts v h l (yes i) =
-        rw i
-        (get_or-set_other (set ahead (2 * e) x) (2 * e + 1) (2 * e) y 0 (λ z. omega arith) ∙ get_or-set_same ahead (2 * e) x 0 (omega (arith, a.long)) ∙ p)
-    parts v h l (no i) = other (2 * v) (λ z. i (omega arith)) (λ z. omega arith) ∙ a.parts v h (omega arith)
-
-    slopes : (v : ℕ) → u < v → v < e + 1 → Dec (v ≡ e) → get_or (set (set ahead (2 * e) x) (2 * e + 1) y) (2 * v + 1) 0 ≡ slope (bounds_in n b) u v
-    slopes v h l (yes i) = rw i (get_or-set_same (set ahead (2 * e) x) (2 * e + 1) y 0 (omega (arith, long, a.long)) ∙ s)
-    slopes v h l (no i) = other (2 * v + 1) (λ z. omega arith) (λ z. i (omega arith)) ∙ a.slopes v h (omega arith)
-
--- with one more entry in its place
-pub looked_past : (ahead : List ℕ) (e end r x y : ℕ) → length ahead ≡ ahead_length → e < positions → EndIs x (e + 1) end r → Past ahead end e
-    → Past (set (set ahead (2 * e) x) (2 * e + 1) y) r (e + 1)
-looked_past ahead e end r x y long few s past v a k = go (dec_lt x none) (ℕ_discrete v e)
-  where
-    go : Dec (x < none) → Dec (v ≡ e) → none ≤ get_or (set (set ahead (2 * e) x) (2 * e + 1) y) (2 * v) 0
-    go (yes l) i = absurd (omega (arith, s.some l))
-    go (no l) (yes i) =
-        rw (i, get_or-set_other (set ahead (2 * e) x) (2 * e + 1) (2 * e) y 0 (λ z. omega arith), get_or-set_same ahead (2 * e) x 0 (omega (arith, long))) (omega arith)
-    go (no l) (no i) =
-        rw (get_or-set_other (set ahead (2 * e) x) (2 * e + 1) (2 * v) y 0 (λ z. omega arith), get_or-set_other ahead (2 * e) (2 * v) x 0 (λ z. omega arith))
-        (past v (omega (arith, s.no (omega arith))) (omega arith))
-
 -- b' has other bounds than b in the column of u alone
 pub record Kept (n u : ℕ) (b b' : List ℕ) : Type 0 where
   pub long : length b' ≡ length b
@@ -588,23 +542,6 @@ module _ (u n : ℕ) (t : List ℕ) (l : u ≤ n) (few : n < positions) where
           })
       at d i (no e) =
           after_same u n t b b' kept few d u (omega arith) l (omega arith) (after_other n b k u x (omega arith) l few d e) own (c.others d (omega arith))
-
-  pub column_last : (b : List ℕ) (k : ℕ) → u ≤ k → Column k u n t b → Stage u n t b
-  column_last b k h c =
-      record {
-        filled = c.stage.filled;
-        afters = λ d w i j m. at d w i j m (ℕ_discrete w u) (ℕ_discrete d u);
-        end = λ _. end (ℕ_discrete u n);
-      }
-    where
-      at : (d w : ℕ) → d ≤ w → u ≤ w → w ≤ n → Dec (w ≡ u) → Dec (d ≡ u) → After n t b d w
-      at d w i j m (yes e) (yes f) = rw (e, f) c.own
-      at d w i j m (yes e) (no f) = rw e (c.others d (omega arith))
-      at d w i j m (no e) f = c.stage.afters d w i (omega arith) m
-
-      end : Dec (u ≡ n) → (bounds_in n b).after n n ≡ 0
-      end (yes e) = rw e at (c.own_end e)
-      end (no e) = c.stage.end (omega arith)
 
 -- a least over what lies ahead may be taken
 pub after_ready : (ahead b t : List ℕ) (d x u end n : ℕ) → ReadyForOwn ahead b t u end n → d ≤ u → x ≤ disk_cap → ReadyForAfter n ahead b d x u end

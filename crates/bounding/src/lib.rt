@@ -11,7 +11,7 @@ use bounds::{
 };
 use chain::Recoveries;
 use table::{CD_START, CM_START, RM_START, column_at, entry};
-use units::{NONE, POSITIONS, UNIT, lesser, rounded_up};
+use units::{NONE, POSITIONS, UNIT, rounded_up};
 use verifications::{end_after, verification_row};
 
 // Two entries for each position.
@@ -30,10 +30,8 @@ fn put_parts(b: &mut [u64], q: &[u64], m: usize, n: usize)
     requires { ReadyToPutParts b.old q.now m n }
     ensures { PutParts n b.old q.now m (n + 1) b.new }
 {
-    let mut v = m + 1;
-    while v <= n {
+    for v in m + 1..n + 1 {
         put_square(b, n, v, m, q[v]);
-        v += 1;
     }
 }
 
@@ -55,10 +53,8 @@ fn least_time(b: &[u64], n: usize, t: &[u32], v: usize) -> u64
 {
     let copy = column_at(t, CM_START, v);
     let mut best = NONE;
-    let mut u: usize = 0;
-    while u < v {
-        best = lesser(b[TIME_START + u] + part(b, n, u, v) + copy, best);
-        u += 1;
+    for u in 0..v {
+        best = best.min(b[TIME_START + u] + part(b, n, u, v) + copy);
     }
     best
 }
@@ -81,10 +77,8 @@ fn least_risk(b: &[u64], t: &[u32], v: usize) -> u64
     ensures { LeastRisk b.now t.now v result }
 {
     let mut best = NONE;
-    let mut u: usize = 0;
-    while u < v {
-        best = lesser(b[RISK_START + u] + stopped(t, u, v), best);
-        u += 1;
+    for u in 0..v {
+        best = best.min(b[RISK_START + u] + stopped(t, u, v));
     }
     best
 }
@@ -95,10 +89,8 @@ fn least_base(b: &[u64], t: &[u32], v: usize) -> u64
     ensures { LeastBase b.now t.now v result }
 {
     let mut best = least_disk(b, t, v, v);
-    let mut d: usize = 0;
-    while d < v {
-        best = lesser(least_disk(b, t, d, v), best);
-        d += 1;
+    for d in 0..v {
+        best = best.min(least_disk(b, t, d, v));
     }
     best / UNIT
 }
@@ -125,11 +117,9 @@ fn fill_steps(b: &mut [u64], t: &[u32], n: usize)
     b[RISK_START] = 0;
     b[BASE_START] = 0;
     let mut q = [NONE; POSITIONS];
-    let mut m: usize = 0;
-    while m < n {
+    for m in 0..n {
         fill_part(b, &mut q, t, m, n);
-        m += 1;
-        put_step(b, n, t, m);
+        put_step(b, n, t, m + 1);
     }
 }
 
@@ -140,13 +130,11 @@ fn look_ahead(ahead: &mut [u64], b: &[u64], t: &[u32], u: usize, n: usize) -> us
     ensures { Looked b.now t.now u result n ahead.new }
 {
     let mut end = u + 1;
-    let mut v = u + 1;
-    while v <= n {
+    for v in u + 1..n + 1 {
         let time = part(b, n, u, v) + column_at(t, CM_START, v);
         ahead[2 * v] = time;
         ahead[2 * v + 1] = slope(b, u, v);
-        v += 1;
-        end = end_after(time, v, end);
+        end = end_after(time, v + 1, end);
     }
     end
 }
@@ -157,13 +145,8 @@ fn least_after(ahead: &[u64], b: &[u64], n: usize, d: usize, x: u64, u: usize, e
     ensures { LeastAfter n ahead.now b.now d x u end result }
 {
     let mut best = NONE;
-    let mut v = u + 1;
-    while v < end {
-        best = lesser(
-            ahead[2 * v] + rounded_up(ahead[2 * v + 1] * x) + after(b, n, d, v),
-            best,
-        );
-        v += 1;
+    for v in u + 1..end {
+        best = best.min(ahead[2 * v] + rounded_up(ahead[2 * v + 1] * x) + after(b, n, d, v));
     }
     best
 }
@@ -187,11 +170,9 @@ fn fill_column(b: &mut [u64], ahead: &[u64], t: &[u32], u: usize, end: usize, n:
     let own = after_disk(ahead, b, t, u, end, n);
     put_square(b, n, u, u, own);
     let at_disk = column_at(t, CD_START, u) + own;
-    let mut d: usize = 0;
-    while d < u {
+    for d in 0..u {
         let next = least_after(ahead, b, n, d, since(b, t, d, u), u, end);
-        put_square(b, n, d, u, lesser(at_disk, next));
-        d += 1;
+        put_square(b, n, d, u, at_disk.min(next));
     }
 }
 
@@ -201,9 +182,7 @@ fn fill_afters(b: &mut [u64], t: &[u32], n: usize)
     ensures { Stage 0 n t.now b.new }
 {
     let mut ahead = [0u64; AHEAD_LENGTH];
-    let mut u = n + 1;
-    while 0 < u {
-        u -= 1;
+    for u in (0..n + 1).rev() {
         let end = look_ahead(&mut ahead, b, t, u, n);
         fill_column(b, &ahead, t, u, end, n);
     }

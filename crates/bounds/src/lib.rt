@@ -7,7 +7,7 @@ ghost use Rattle.std.specs.Prelude.{◌≡◌, get_or};
 ghost use Rattle.bounds.specs.Working.Bounds.{square_at, bounds_in, PlacesFit, ColumnsFit, SlopeIs, ReadyForBeyond, BeyondIs, ReadyForLow, LowIs, ReadyForDiskIn, DiskIs, ReadyForSince, SinceIs};
 
 use table::{CM_START, RD_START, column_at};
-use units::{POSITIONS, UNIT, excess, lesser, rounded_up};
+use units::{POSITIONS, UNIT, rounded_up};
 
 pub const TIME_START: usize = 0;
 
@@ -52,7 +52,7 @@ pub fn slope(b: &[u64], u: usize, v: usize) -> u64
     requires { ColumnsFit b.now u v }
     ensures { SlopeIs b.now u v result }
 {
-    lesser(SLOPE_CAP, excess(b[RISK_START + v], b[RISK_START + u]))
+    SLOPE_CAP.min(b[RISK_START + v].saturating_sub(b[RISK_START + u]))
 }
 
 // From the memory copy u to that at v, where R_D' + M' is x beyond the base of u.
@@ -68,7 +68,7 @@ pub fn beyond(b: &[u64], u: usize, x: u64) -> u64
     requires { ReadyForBeyond b.now u }
     ensures { BeyondIs b.now u x result }
 {
-    excess(x, UNIT * b[BASE_START + u])
+    x.saturating_sub(UNIT * b[BASE_START + u])
 }
 
 // The least R_D' + M' at u with the last disk copy d, by the times of both.
@@ -76,7 +76,7 @@ pub fn least_disk(b: &[u64], t: &[u32], d: usize, u: usize) -> u64
     requires { ReadyForDiskIn b.now t.now d u }
     ensures { DiskIs b.now t.now d u result }
 {
-    column_at(t, RD_START, d) + excess(b[TIME_START + u], b[TIME_START + d])
+    column_at(t, RD_START, d) + b[TIME_START + u].saturating_sub(b[TIME_START + d])
 }
 
 // What of the least R_D' + M' at u, with the last disk copy d, lies beyond the base of u.

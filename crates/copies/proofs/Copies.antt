@@ -4,7 +4,7 @@ use Prim.Native.Nat.{ℕ, ◌+◌, ◌-◌, ◌≤◌, ◌<◌, min}
 use mathlib.Core.Path.{◌≡◌, refl, ◌∙◌}
 use mathlib.Core.Logic.{◌≢◌, ◌⊎◌, inl, inr}
 use mathlib.Core.List.{List}
-use native.Mathlib.Decide.{dec_le, dec_lt, ℕ_discrete}
+use native.Mathlib.Decide.{dec_lt, ℕ_discrete}
 use native.Mathlib.Omega.{arith}
 use lib.ListN.{get_or, take, drop}
 use Rattle.units.specs.Limits.{none}
@@ -51,16 +51,14 @@ module _ (t : List ℕ) (d e : ℕ) where
   unfolding to_memory least_q chain_in
   memory_arrival few m M' q f w a h = rw (f.times w (omega arith) h, column_part cm_start t w (omega arith))
 
--- the memory copies after v that cannot matter from m
+-- the memory copies from e on that cannot matter from m
 module _ (n : ℕ) (time t b : List ℕ) (d m left top : ℕ) where
   abbrev soonest : ℕ → ℕ
   soonest v = low (chain_in t) (bounds_in n b) m (get_or time m 0) (column rd_start t d + get_or time m 0) v
 
-  pub record Passed (v : ℕ) : Type 0 where
-    pub none_later : (w : ℕ) → v < w → w ≤ top → soonest w < get_or time w 0 → soonest w + (bounds_in n b).after d w < left → w ≤ v
-
-  pub passed_first : Passed top
-  passed_first = record { none_later = λ w a k x y. absurd (omega arith) }
+  pub record Passed (e : ℕ) : Type 0 where
+    pub from : m < e
+    pub none_later : (w : ℕ) → m < w → w ≤ top → soonest w < get_or time w 0 → soonest w + (bounds_in n b).after d w < left → w < e
 
   -- the code's own way to say it
   pub soonest_is : (disk y : ℕ) → disk ≡ column rd_start t d + get_or time m 0 → y ≡ beyond (bounds_in n b) m disk
@@ -72,24 +70,17 @@ module _ (n : ℕ) (time t b : List ℕ) (d m left top : ℕ) where
   unfolding low
   soonest_ge v = omega arith
 
-  pub passed_next : (v : ℕ) → m < v → Passed v → min (get_or time v 0) (left - (bounds_in n b).after d v) ≤ soonest v → Passed (v - 1)
-  passed_next v h p x = record { none_later = λ w a k y z. go w a k y z (ℕ_discrete w v) }
+  pub passed_next : (v : ℕ) → m < v → Passed (v + 1) → min (get_or time v 0) (left - (bounds_in n b).after d v) ≤ soonest v → Passed v
+  passed_next v h p x = record { from = h; none_later = λ w a k y z. go w a k y z (ℕ_discrete w v) }
     where
-      go : (w : ℕ) → v - 1 < w → w ≤ top → soonest w < get_or time w 0 → soonest w + (bounds_in n b).after d w < left → Dec (w ≡ v) → w ≤ v - 1
+      go : (w : ℕ) → m < w → w ≤ top → soonest w < get_or time w 0 → soonest w + (bounds_in n b).after d w < left → Dec (w ≡ v) → w < v
       go w a k y z (yes e) = absurd (omega (arith, rw e at y, rw e at z))
-      go w a k y z (no e) = absurd (omega (arith, p.none_later w (omega arith) k y z))
-
-  reaches : (v : ℕ) → Passed v → (w : ℕ) → m < w → w ≤ top → soonest w < get_or time w 0 → soonest w + (bounds_in n b).after d w < left → w ≤ v
-  reaches v p w a k y z = go (dec_le w v)
-    where
-      go : Dec (w ≤ v) → w ≤ v
-      go (yes e) = e
-      go (no e) = p.none_later w (omega arith) k y z
+      go w a k y z (no e) = omega (arith, p.none_later w a k y z)
 
   -- v matters, and nothing after it
-  pub far_some : (v : ℕ) → m < v → v ≤ top → Passed v → get_or time v 0 ≤ none → soonest v < min (get_or time v 0) (left - (bounds_in n b).after d v) → Far n time t b d m left top v
+  pub far_some : (v : ℕ) → m < v → v ≤ top → Passed (v + 1) → get_or time v 0 ≤ none → soonest v < min (get_or time v 0) (left - (bounds_in n b).after d v) → Far n time t b d m left top v
   far_some v h k p cap x =
-      record { from = omega arith; to = k; reached = λ _. omega (arith, soonest_ge v); reaches = reaches v p }
+      record { from = omega arith; to = k; reached = λ _. omega (arith, soonest_ge v); reaches = λ w a l y z. omega (arith, p.none_later w a l y z) }
 
   -- where m leaves no room, nothing after it does
   pub far_dead : Bounding n top t b → d ≤ m → m ≤ top → (v : ℕ) → v ≡ m → ((w : ℕ) → w ≤ top → get_or time w 0 ≤ none) → least_m (chain_in t) none d m ≤ get_or time m 0
@@ -118,9 +109,9 @@ module _ (n : ℕ) (time t b : List ℕ) (d m left top : ℕ) where
       go w a l y z (no r) = omega (arith, y, capped w l, not_low)
 
   -- nothing after m does
-  pub far_none : (v : ℕ) → m ≤ top → m ≤ v → v ≤ m → Passed v → Far n time t b d m left top v
-  far_none v k l h p =
-      record { from = l; to = omega arith; reached = λ a. absurd (omega arith); reaches = reaches v p }
+  pub far_none : m ≤ top → Passed (m + 1) → Far n time t b d m left top m
+  far_none k p =
+      record { from = omega arith; to = k; reached = λ a. absurd (omega arith); reaches = λ w a l y z. omega (arith, p.none_later w a l y z) }
 
 -- the turn of the memory copy m, in the row from the disk copy d
 module _ (n : ℕ) (t b : List ℕ) (d left top : ℕ) (bounding : Bounding n top t b) (room : left ≤ none) where
@@ -193,7 +184,7 @@ module _ (t b : List ℕ) (limit n : ℕ) (bounding : Bounding n n t b) (ends : 
   end_live h = record { in_time = h; on_plan = record { place = inl refl; room = omega (arith, ends) } }
 
   module _ (d : ℕ) (time backs : List ℕ) (turn : Turn none 0 (to_disk (chain_in t) none) (LiveDisk t b limit n) n d time backs) (l : d < n) (bound : ℕ)
-      (is : bound ≡ min (limit + 1) (get_or time n 0)) where
+      (is : bound ≡ min (get_or time n 0) (limit + 1)) where
     module _ (v : ℕ) (k : v ≤ n) (some : 0 < v) (live : LiveDisk t b limit n v) (e : back_d (chain_in t) none v ≡ d) where
       in_time : least_d (chain_in t) none v < none
       in_time = omega (arith, live.in_time, live.on_plan.room)

@@ -13,7 +13,7 @@ ghost use Rattle.copies.specs.Working.Copies.{Offered, Cut, LiveCopy, LiveDisk, 
 
 use bounds::{after, beyond, part_low};
 use table::{CD_START, CM_START, column_of, entry, recoveries, wide};
-use units::{NONE, POSITIONS, excess, lesser};
+use units::{NONE, POSITIONS};
 use verifications::{offer, verification_row};
 
 // The arrivals at copies from u: the time at u, the time of the part from u, and the cost of the copy.
@@ -29,10 +29,8 @@ fn offer_copies(
     ensures { Offered time.old backs.old u (top + 1) (λ w. get_or time.old u 0 + get_or part.now w 0 + get_or copies.now w 0) time.new backs.new }
 {
     let t = time[u];
-    let mut v = u + 1;
-    while v <= top {
+    for v in u + 1..top + 1 {
         offer(time, backs, v, u, t + part[v] + wide(copies[v]));
-        v += 1;
     }
 }
 
@@ -57,15 +55,13 @@ fn far(
     }
     let r = recoveries(t, d, m, mt);
     let disk = beyond(b, m, r.disk);
-    let mut v = top;
-    while m < v {
-        let room = excess(left, after(b, n, d, v));
-        if mt + part_low(b, n, t, m, disk, v) < lesser(time[v], room) {
+    for v in (m + 1..top + 1).rev() {
+        let room = left.saturating_sub(after(b, n, d, v));
+        if mt + part_low(b, n, t, m, disk, v) < time[v].min(room) {
             return v;
         }
-        v -= 1;
     }
-    v
+    m
 }
 
 // The arrivals at memory copies up to the top from that at m, with the last disk copy d.
@@ -94,13 +90,11 @@ pub fn memory_row(
     ensures { Cut none d (to_memory (chain_in t.now) none d) (LiveCopy n t.now b.now d left) top time.new backs.new }
 {
     time[d] = 0;
-    let mut m = d;
-    while m < top {
+    for m in d..top {
         let last = far(time, t, b, n, d, m, left, top);
         if m < last {
             offer_memory(time, backs, t, d, m, last);
         }
-        m += 1;
     }
 }
 
@@ -129,13 +123,11 @@ pub fn disk_row(time: &mut [u64], backs: &mut [usize], t: &[u32], b: &[u64], lim
     ensures { Cut none 0 (to_disk (chain_in t.now) none) (LiveDisk t.now b.now limit n) n time.new backs.new }
 {
     time[0] = 0;
-    let mut d: usize = 0;
-    while d < n {
-        let bound = lesser(limit + 1, time[n]);
+    for d in 0..n {
+        let bound = time[n].min(limit + 1);
         let start = time[d];
         if start + after(b, n, d, d) < bound {
             offer_disk(time, backs, t, b, d, bound - start, n);
         }
-        d += 1;
     }
 }

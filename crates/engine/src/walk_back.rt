@@ -72,6 +72,7 @@ pub fn plan_marks(job: Job) -> [u8; TASK_LIMIT]
 {
     let mut marks = [0u8; TASK_LIMIT];
     let mut w = at_disk(job, job.tasks);
+    // a `while`, as each step finds where the next one stands
     while 0 < w.v {
         let v = w.v;
         let k = w.k;

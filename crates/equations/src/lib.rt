@@ -48,11 +48,9 @@ pub fn e_disk(job: Job, d2: usize) -> Least
         return Least { time: 0, at: 0 };
     }
     let mut least = Least { time: NONE, at: 0 };
-    let mut d1: usize = 0;
-    while d1 < d2 {
+    for d1 in 0..d2 {
         let time = e_disk(job, d1).time + e_mem(job, d1, d2).time + cd_at(job, d2);
         least = offer(least, d1, time);
-        d1 += 1;
     }
     least
 }
@@ -66,12 +64,10 @@ pub fn e_mem(job: Job, d1: usize, m2: usize) -> Least
         return Least { time: 0, at: d1 };
     }
     let mut least = Least { time: NONE, at: d1 };
-    let mut m1 = d1;
-    while m1 < m2 {
+    for m1 in d1..m2 {
         let mem = e_mem(job, d1, m1).time;
         let time = mem + e_verif(job, d1, m1, mem, m2).time + cm_at(job, m2);
         least = offer(least, m1, time);
-        m1 += 1;
     }
     least
 }
@@ -87,11 +83,9 @@ pub fn e_verif(job: Job, d1: usize, m1: usize, mem: u64, v2: usize) -> Least
         return Least { time: 0, at: m1 };
     }
     let mut least = Least { time: NONE, at: m1 };
-    let mut v1 = m1;
-    while v1 < v2 {
+    for v1 in m1..v2 {
         let time = e_verif(job, d1, m1, mem, v1).time + e(job, d1, m1, mem, v1, v2);
         least = offer(least, v1, time);
-        v1 += 1;
     }
     least
 }

@@ -41,15 +41,7 @@ fn bad_extent(s: &[u8], i: usize) -> bool
 pub fn bad_extents(s: &[u8]) -> bool
     ensures { result ≡ bad_extents s.now }
 {
-    let m = section_count(s);
-    let mut i: usize = 0;
-    while i < m {
-        if bad_extent(s, i) {
-            return true;
-        }
-        i += 1;
-    }
-    false
+    (0..section_count(s)).any(|i| bad_extent(s, i))
 }
 
 // Whether the sections follow one another directly from the header on and the last ends with the sheet. Past check 5 it is so just where no byte is stray.
@@ -57,13 +49,6 @@ pub fn is_contiguous(s: &[u8]) -> bool
     ensures { result ≡ contiguous s.now }
 {
     let m = section_count(s);
-    let mut k: usize = 0;
-    while k < m {
-        if offset_of(s, k) != end_before(s, k) {
-            return false;
-        }
-        k += 1;
-    }
-    let end = end_before(s, m);
-    s.len() == end
+    let follow = (0..m).all(|k| offset_of(s, k) == end_before(s, k));
+    follow && s.len() == end_before(s, m)
 }

@@ -8,19 +8,13 @@ ghost use Rattle.fields.specs.Written.{field_bytes, fields};
 
 pub const FIELD_LENGTH: usize = 4;
 
-fn wide(b: u8) -> u64
-    ensures { Ranged b (2 ^ 8) result }
-{
-    b as u64
-}
-
 pub fn byte(part: &[u8], at: usize) -> u64
     ensures { Ranged (byte_at part.now at) (2 ^ 8) result }
 {
-    if part.len() <= at {
-        return 0;
+    match part.get(at) {
+        Some(&b) => u64::from(b),
+        None => 0,
     }
-    wide(part[at])
 }
 
 // The bound keeps the place of the last byte within a usize; sheets are far shorter.
@@ -28,11 +22,11 @@ pub fn field(part: &[u8], at: usize) -> u32
     requires { at < 2 ^ 63 }
     ensures { result ≡ field_at part.now at }
 {
-    let a = byte(part, at);
-    let b = byte(part, at + 1);
-    let c = byte(part, at + 2);
-    let d = byte(part, at + 3);
-    (a + 256 * b + 65_536 * c + 16_777_216 * d) as u32
+    let a = byte(part, at) as u8;
+    let b = byte(part, at + 1) as u8;
+    let c = byte(part, at + 2) as u8;
+    let d = byte(part, at + 3) as u8;
+    u32::from_le_bytes([a, b, c, d])
 }
 
 // One field, from byte `at` on.
@@ -40,10 +34,7 @@ pub fn put_field(buffer: &mut [u8], at: usize, x: u32)
     requires { at + field_length ≤ length buffer.old }
     ensures { buffer.new ≡ sets buffer.old at (field_bytes x) }
 {
-    buffer[at] = (x % 256) as u8;
-    buffer[at + 1] = (x / 256 % 256) as u8;
-    buffer[at + 2] = (x / 65_536 % 256) as u8;
-    buffer[at + 3] = (x / 16_777_216) as u8;
+    buffer[at..at + FIELD_LENGTH].copy_from_slice(&x.to_le_bytes());
 }
 
 // These values as fields, one after the other, from byte `at` on.
@@ -51,9 +42,7 @@ pub fn put_fields(buffer: &mut [u8], at: usize, values: &[u32])
     requires { at + field_length * length values.now ≤ length buffer.old }
     ensures { buffer.new ≡ sets buffer.old at (fields values.now) }
 {
-    let mut j: usize = 0;
-    while j < values.len() {
-        put_field(buffer, at + FIELD_LENGTH * j, values[j]);
-        j += 1;
+    for (j, &x) in values.iter().enumerate() {
+        put_field(buffer, at + FIELD_LENGTH * j, x);
     }
 }

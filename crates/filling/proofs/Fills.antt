@@ -79,13 +79,6 @@ factors_packable powers p W v f h =
       both = omega (arith, h.both, G_cap (exponent p.silent W + exponent p.failstop W));
     }
 
-pub pairs_none : (powers : Powers) (job : Job) (t : List ℕ) → needed job.tasks ≤ length t → PairsTo powers job 0 1 t
-pairs_none powers job t e = record { long = e; pairs = λ x y h k l. absurd (none x y h l) }
-  where
-    none : (x y : ℕ) → x < y → EarlierPair x y 0 1 → ⊥
-    none x y h (inl l) = omega arith
-    none x y h (inr l) = omega (arith, l.0, l.1)
-
 module _ (powers : Powers) (job : Job) (u v : ℕ) (t : List ℕ) (h : PairsTo powers job u v t) where
   -- the factors of the next pair
   pub pairs_more : u < v → v ≤ job.tasks → job.tasks < positions → (f : Factors) → FactorsIfAllowed (energy_factors_at powers job u v) f
@@ -124,18 +117,6 @@ module _ (powers : Powers) (job : Job) (u v : ℕ) (t : List ℕ) (h : PairsTo p
           go (yes p) = inr (p, omega arith)
           go (no p) = inl (omega arith)
       earlier x y a b (inr z) = absurd (omega (arith, z.0, z.1))
-
--- after the last near end all stretches are there
-pub table_first : (powers : Powers) (job : Job) (t : List ℕ) → PairsTo powers job job.tasks (job.tasks + 1) t → TableTo powers job 0 t
-table_first powers job t h =
-    record {
-      long = h.long;
-      pairs = λ x y a b. h.pairs x y a b (inl (omega arith));
-      cm = λ v k. absurd (omega arith);
-      cd = λ v k. absurd (omega arith);
-      rd = λ v k. absurd (omega arith);
-      rm = λ v k. absurd (omega arith);
-    }
 
 -- a column has its entries before k, with the cost that the job gives at each
 module _ (cost : ℕ → ℕ) (start k : ℕ) (t : List ℕ) (old : (v : ℕ) → v < k → column start t v ≡ cost v) where

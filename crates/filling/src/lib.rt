@@ -16,22 +16,16 @@ fn fill_pairs(t: &mut [u32], powers: Powers, job: Job)
     requires { ReadyToFill powers job t.old }
     ensures { PairsTo powers job job.tasks (job.tasks + 1) t.new }
 {
-    let job = job;
     let n = job.tasks;
     let platform = job.platform;
     let weights = job.weights;
-    let mut weight: u64 = 0;
-    let mut u: usize = 0;
-    while u < n {
-        weight = 0;
-        let mut v = u + 1;
-        while v <= n {
+    for u in 0..n {
+        let mut weight = 0;
+        for v in u + 1..n + 1 {
             weight += weights[v - 1] as u64;
             let f = factors_if_allowed(powers, platform, weight, v_at(job, v));
             put_pair(t, u, v, f);
-            v += 1;
         }
-        u += 1;
     }
 }
 
@@ -40,10 +34,7 @@ fn fill_costs(t: &mut [u32], powers: Powers, job: Job)
     requires { ReadyForCosts powers job t.old }
     ensures { TableTo powers job (job.tasks + 1) t.new }
 {
-    let job = job;
-    let n = job.tasks;
-    let mut v: usize = 0;
-    while v <= n {
+    for v in 0..job.tasks + 1 {
         let cm = powers.saving * cm_at(job, v);
         let cd = powers.saving * cd_at(job, v);
         let rd = powers.saving * rd_at(job, v);
@@ -52,7 +43,6 @@ fn fill_costs(t: &mut [u32], powers: Powers, job: Job)
         put_in_column(t, CD_START, v, cd);
         put_in_column(t, RD_START, v, rd);
         put_in_column(t, RM_START, v, rm);
-        v += 1;
     }
 }
 
@@ -62,9 +52,7 @@ pub fn fill(t: &mut [u32], powers: Powers, job: Job)
     requires { ReadyToFill powers job t.old }
     ensures { TableOf powers job t.new }
 {
-    let job = job;
-    let n = job.tasks;
     fill_pairs(t, powers, job);
     fill_costs(t, powers, job);
-    put_firsts(t, n);
+    put_firsts(t, job.tasks);
 }

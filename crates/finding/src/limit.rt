@@ -6,7 +6,7 @@ ghost use Rattle.finding.specs.Working.Limit.{ReadyForNext, Next, ReadyForCopy, 
 
 use bounds::{after, part_low, since};
 use table::{CD_START, CM_START, column_at, recoveries};
-use units::{NONE, POSITIONS, lesser};
+use units::{NONE, POSITIONS};
 use verifications::verification_row;
 
 // The first memory copy after u that the bounds take for the best, with the last disk copy d; n where none before it is.
@@ -16,14 +16,12 @@ fn next_copy(t: &[u32], b: &[u64], d: usize, u: usize, n: usize) -> usize
 {
     let x = since(b, t, d, u);
     let rest = after(b, n, d, u);
-    let mut v = u + 1;
-    while v < n {
+    for v in u + 1..n {
         if part_low(b, n, t, u, x, v) + after(b, n, d, v) == rest {
             return v;
         }
-        v += 1;
     }
-    v
+    n
 }
 
 // The time of a memory copy at v after that at u, whose time is mt, with the last disk copy d.
@@ -46,15 +44,16 @@ pub fn first_limit(t: &[u32], b: &[u64], n: usize) -> u64
     let mut u: usize = 0;
     let mut on_disk: u64 = 0;
     let mut in_memory: u64 = 0;
+    // a `while`, as the next position is the copy found and not the next number
     while u < n {
         let v = next_copy(t, b, d, u, n);
-        in_memory = lesser(NONE, copy_time(t, d, u, in_memory, v));
+        in_memory = NONE.min(copy_time(t, d, u, in_memory, v));
         u = v;
         if after(b, n, d, v) == column_at(t, CD_START, v) + after(b, n, v, v) {
-            on_disk = lesser(NONE, on_disk + in_memory + column_at(t, CD_START, v));
+            on_disk = NONE.min(on_disk + in_memory + column_at(t, CD_START, v));
             in_memory = 0;
             d = v;
         }
     }
-    lesser(NONE - 1, on_disk)
+    on_disk.min(NONE - 1)
 }

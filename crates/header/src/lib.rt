@@ -4,11 +4,12 @@
 
 ghost use Rattle.std.specs.Prelude.{◌≡◌, ◌<◌, ◌^◌};
 ghost use Rattle.refusals.specs.Refusals.{first};
+ghost use Rattle.refusals.specs.Checks.{told};
 ghost use Rattle.fields.specs.Bytes.{Ranged};
 ghost use Rattle.header.specs.Header.{tasks, tasks_most, sections, least_offset, offset, size, bad_length, bad_form, bad_tasks, bad_sections, header_conditions};
 
 use fields::{FIELD_LENGTH, byte, field};
-use refusals::{BAD_COUNT, BAD_FORM, BAD_LENGTH, BAD_SECTIONS};
+use refusals::Refusal;
 use units::TASK_LIMIT;
 
 const SHORTEST_SHEET: usize = 20;
@@ -97,21 +98,21 @@ fn bad_sections(s: &[u8]) -> bool
     count != section_count(s)
 }
 
-// The first of checks 1 to 4 that holds, or 0.
-pub fn header_refusal(s: &[u8]) -> u64
-    ensures { result ≡ first (header_conditions s.now) }
+// The first of checks 1 to 4 that holds.
+pub fn check_header(s: &[u8]) -> Result<(), Refusal>
+    ensures { told result ≡ first (header_conditions s.now) }
 {
     if bad_length(s) {
-        return BAD_LENGTH;
+        return Err(Refusal::BadLength);
     }
     if bad_form(s) {
-        return BAD_FORM;
+        return Err(Refusal::BadForm);
     }
     if bad_tasks(s) {
-        return BAD_COUNT;
+        return Err(Refusal::BadCount);
     }
     if bad_sections(s) {
-        return BAD_SECTIONS;
+        return Err(Refusal::BadSections);
     }
-    0
+    Ok(())
 }

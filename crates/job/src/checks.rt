@@ -3,6 +3,7 @@ ghost use Rattle.std.specs.Prelude.{◌≡◌, ◌||◌, false, ◌+◌, ◌<◌
 ghost use Rattle.units.specs.Limits.{cost_limit};
 ghost use Rattle.lists.specs.Lists.{some};
 ghost use Rattle.refusals.specs.Refusals.{first};
+ghost use Rattle.refusals.specs.Checks.{told};
 ghost use Rattle.units.specs.Limits.{task_limit};
 ghost use Rattle.job.specs.Job.{total};
 ghost use Rattle.job.specs.Working.Sound.{ReadyForWeights};
@@ -11,13 +12,10 @@ ghost use Rattle.job.specs.Checks.{bad_count, bad_cost, bad_weight, job_conditio
 
 use crate::stretch::is_allowed;
 use crate::{Job, Platform};
-use refusals::{BAD_TASK, BAD_VALUE};
+use refusals::Refusal;
 use units::TASK_LIMIT;
 
 const COST_LIMIT: u32 = 1 << 30;
-
-// How many fields of a platform are costs.
-const COSTS: usize = 5;
 
 pub const TOTAL_LIMIT: u64 = 1 << 30;
 
@@ -32,14 +30,7 @@ fn bad_cost(p: Platform) -> bool
     ensures { result ≡ bad_cost p }
 {
     let costs = [p.cd, p.cm, p.v, p.rd, p.rm];
-    let mut k: usize = 0;
-    while k < COSTS {
-        if COST_LIMIT < costs[k] {
-            return true;
-        }
-        k += 1;
-    }
-    false
+    costs.iter().any(|cost| COST_LIMIT < *cost)
 }
 
 fn bad_weight(w: u32) -> bool
@@ -54,14 +45,12 @@ fn bad_weights(weights: &[u32], n: usize) -> bool
     ensures { result ≡ (some n (bad_weight weights.now) || ltb cost_limit (total weights.now n)) }
 {
     let mut sum: u64 = 0;
-    let mut j: usize = 0;
-    while j < n {
+    for j in 0..n {
         let w = weights[j];
         if bad_weight(w) {
             return true;
         }
-        sum += w as u64;
-        j += 1;
+        sum += u64::from(w);
     }
     TOTAL_LIMIT < sum
 }
@@ -72,32 +61,30 @@ fn heaviest(weights: &[u32], n: usize) -> u32
     ensures { result ≡ heaviest weights.now n }
 {
     let mut most: u32 = 0;
-    let mut j: usize = 0;
-    while j < n {
+    for j in 0..n {
         let w = weights[j];
         if most < w {
             most = w;
         }
-        j += 1;
     }
     most
 }
 
-// The first of checks 7 and 8 that holds, or 0: where some task alone is not allowed as a stretch, the heaviest is not. The task count has passed check 3, so
+// The first of checks 7 and 8 that holds: where some task alone is not allowed as a stretch, the heaviest is not. The task count has passed check 3, so
 // that it is a place of the array.
-pub fn job_refusal(job: Job) -> u64
+pub fn check_job(job: Job) -> Result<(), Refusal>
     requires { job.tasks ≤ task_limit }
-    ensures { result ≡ first (job_conditions job) }
+    ensures { told result ≡ first (job_conditions job) }
 {
     if bad_cost(job.platform) {
-        return BAD_VALUE;
+        return Err(Refusal::BadValue);
     }
     let weights = job.weights;
     if bad_weights(&weights[..], job.tasks) {
-        return BAD_VALUE;
+        return Err(Refusal::BadValue);
     }
     if !is_allowed(job.platform, heaviest(&weights[..], job.tasks) as u64) {
-        return BAD_TASK;
+        return Err(Refusal::BadTask);
     }
-    0
+    Ok(())
 }

@@ -8,7 +8,7 @@ use units::TASK_LIMIT;
 pub fn wide(x: u32) -> u64
     ensures { Widened x result }
 {
-    x as u64
+    u64::from(x)
 }
 
 // The weight of the first n tasks, of weights in any range. Runs, joins, plans by energy and the equations as printed ask for a position of a task count that
@@ -18,10 +18,8 @@ pub fn weight_to(weights: [u32; TASK_LIMIT], n: usize) -> u64
     ensures { WeightTo weights n result }
 {
     let mut sum: u64 = 0;
-    let mut j: usize = 0;
-    while j < n {
+    for j in 0..n {
         sum += wide(weights[j]);
-        j += 1;
     }
     sum
 }

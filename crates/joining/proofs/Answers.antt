@@ -1,20 +1,22 @@
 -- The two answers of a join, over the number that its checks give. Assumes nothing.
 use Prim.Native.Nat.{ℕ}
-use mathlib.Core.Path.{◌≡◌, refl, sym, ◌∙◌}
+use mathlib.Core.Path.{◌≡◌, refl, sym, ◌∙◌, ap}
 use mathlib.Core.List.{List, ◌++◌}
 use native.Mathlib.Omega.{arith}
 use borrow.Author.Tests.{ne_eqb}
 use lib.ListN.{length}
 use Rattle.refusals.specs.Refusals.{first}
 use Rattle.refusals.proofs.Refusals.{first_stands, first_goes_on}
-use Rattle.sheet.specs.Reading.{Says, Reads, job_of, sheet_conditions, sheet_refusal}
-use Rattle.sheet.specs.declared.Sheet.{Sheet}
-use Rattle.sheet.specs.declared.Reading.{Reading}
-use Rattle.sheet.specs.declared.Reading.TheVariants.{Accepted, Refused}
-use Rattle.sheet.proofs.Readings.{sheet_numbered}
+use Rattle.std.proofs.Common.{Result, Err}
+use Rattle.refusals.specs.Checks.{told}
+use Rattle.refusals.specs.declared.Refusal.{Refusal}
+use Rattle.refusals.proofs.Checks.{number_positive}
+use Rattle.job.specs.declared.Job.{Job}
+use Rattle.sheet.specs.Reading.{Reads, job_of, sheet_conditions, sheet_refusal}
+use Rattle.sheet.proofs.Readings.{sheet_numbered, read_told}
 use Rattle.writing.specs.Form.{written}
 use Rattle.joining.specs.Join.{both_conditions, join_refusal, Writes}
-use Rattle.joining.specs.Working.Ready.{WasRead, number_in, refused_join}
+use Rattle.joining.specs.Working.Ready.{refused_join}
 
 -- refused: length 0, and the buffer as it was
 pub writes_refused : {number refusal : ℕ} (sheet before : List ℕ) → number ≡ refusal → (number ≡ 0 → ⊥)
@@ -27,15 +29,10 @@ pub writes_sheet : {refusal size : ℕ} (sheet before after : List ℕ) → 0 �
     → Writes refusal sheet before after (record { number = 0; length = size })
 writes_sheet sheet before after e l w = record { number = e; size = rw (← e) l; buffer = rw (← e) w }
 
--- the two cases of a reading
-module _ (s : List ℕ) {r : Reading} where
-  pub reading_refused : {x number : ℕ} → r ≡ Refused x → Reads s r → number ≡ number_in r → (number ≡ sheet_refusal s) × (number ≡ 0 → ⊥)
-  unfolding Says number_in
-  reading_refused e reads q = let told = rw e at reads in let n = rw e at q in (n ∙ sym told.0, λ z. omega (arith, told.1, n))
-
-  pub reading_accepted : {v : Sheet} → r ≡ Accepted v → Reads s r → WasRead s v
-  unfolding Says
-  reading_accepted e reads = let told = rw e at reads in record { accepted = told.0; values_read = told.1 }
+-- a refused reading
+pub reading_refused : (s : List ℕ) {r : Result Job Refusal} {refusal : Refusal} {number : ℕ} → r ≡ Err refusal → Reads s r → number ≡ told r
+    → (number ≡ sheet_refusal s) × (number ≡ 0 → ⊥)
+reading_refused s {r} {refusal} e reads q = (q ∙ read_told s r reads, λ z. omega (arith, number_positive refusal, q ∙ ap told e))
 
 -- the first sheet's refusal decides, then the second's, then what is asked of both
 module _ (s t : List ℕ) (room : ℕ) where

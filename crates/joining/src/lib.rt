@@ -4,19 +4,17 @@
 
 ghost use Rattle.std.specs.Prelude.{◌≡◌, length};
 ghost use Rattle.refusals.specs.Refusals.{first};
-ghost use Rattle.sheet.specs.Reading.{job_of};
+ghost use Rattle.refusals.specs.Checks.{told};
 ghost use Rattle.joining.specs.Join.{same_platform, both_conditions, joined_sheet, Writes, Joins};
-ghost use Rattle.joining.specs.Working.Ready.{refused_join, Both, WasRead, number_in};
+ghost use Rattle.joining.specs.Working.Ready.{refused_join, Both};
 
 use job::checks::TOTAL_LIMIT;
 use job::totals::weight_to;
 use job::{Job, Platform};
-use kinds::{WEIGHTS_KIND, length_of};
-use refusals::{ACCEPTED, BAD_COUNT, BAD_VALUE, OTHER_PLATFORM, SHORT_BUFFER};
-use sheet::read::{read, weights_of};
-use sheet::{Reading, Sheet};
+use refusals::{ACCEPTED, Refusal};
+use sheet::read::read_job;
 use units::TASK_LIMIT;
-use writing::{PLATFORM_FIELDS, fields_of, put_sheet, sheet_length};
+use writing::{fields_of, put_sheet, sheet_length};
 
 // The answer of a join: 0 and how many bytes of the buffer are the sheet, or the number of its refusal and 0.
 #[repr(C)]
@@ -38,20 +36,13 @@ fn is_same(p: Platform, q: Platform) -> bool
 {
     let a = fields_of(p);
     let b = fields_of(q);
-    let mut i: usize = 0;
-    while i < PLATFORM_FIELDS {
-        if a[i] != b[i] {
-            return false;
-        }
-        i += 1;
-    }
-    true
+    a == b
 }
 
-// The first of 26, 3, 7 and 11 that holds of both together, or 0. The total is taken in 64 bits, which no weights can wrap.
-fn both_refusal(a: Job, b: Job, room: usize) -> u64
+// The first of 26, 3, 7 and 11 that holds of both together. The total is taken in 64 bits, which no weights can wrap.
+fn check_both(a: Job, b: Job, room: usize) -> Result<(), Refusal>
     requires { Both a b }
-    ensures { result ≡ first (both_conditions a b room) }
+    ensures { told result ≡ first (both_conditions a b room) }
 {
     let same = is_same(a.platform, b.platform);
     let n = a.tasks + b.tasks;
@@ -60,18 +51,18 @@ fn both_refusal(a: Job, b: Job, room: usize) -> u64
     let total = weight_to(early, a.tasks) + weight_to(late, b.tasks);
     let size = sheet_length(n);
     if !same {
-        return OTHER_PLATFORM;
+        return Err(Refusal::OtherPlatform);
     }
     if TASK_LIMIT < n {
-        return BAD_COUNT;
+        return Err(Refusal::BadCount);
     }
     if TOTAL_LIMIT < total {
-        return BAD_VALUE;
+        return Err(Refusal::BadValue);
     }
     if room < size {
-        return SHORT_BUFFER;
+        return Err(Refusal::ShortBuffer);
     }
-    0
+    Ok(())
 }
 
 // The sheets of two jobs joined. Every refusal is known before a byte is written.
@@ -79,9 +70,8 @@ fn join_jobs(a: Job, b: Job, buffer: &mut [u8]) -> Joined
     requires { Both a b }
     ensures { Writes (first (both_conditions a b (length buffer.old))) (joined_sheet a b) buffer.old buffer.new result }
 {
-    let number = both_refusal(a, b, buffer.len());
-    if number != 0 {
-        return refused(number);
+    if let Err(refusal) = check_both(a, b, buffer.len()) {
+        return refused(refusal.number());
     }
     let early = a.weights;
     let late = b.weights;
@@ -94,30 +84,13 @@ fn join_jobs(a: Job, b: Job, buffer: &mut [u8]) -> Joined
     }
 }
 
-// The values of an accepted sheet with their weights, which are read from their part of it.
-fn with_weights(s: &[u8], values: Sheet) -> Job
-    requires { WasRead s.now values }
-    ensures { result ≡ job_of s.now }
-{
-    let start = values.weights;
-    let n = values.tasks;
-    let end = start + length_of(WEIGHTS_KIND, n);
-    let weights = weights_of(&s[start..end], n);
-    let platform = values.platform;
-    Job {
-        tasks: n,
-        platform,
-        weights,
-    }
-}
-
 // The number of a reading, which is 0 if it is accepted.
-fn number_of(reading: Reading) -> u64
-    ensures { result ≡ number_in reading }
+fn number_of(reading: Result<Job, Refusal>) -> u64
+    ensures { result ≡ told reading }
 {
     match reading {
-        Reading::Accepted(_) => ACCEPTED,
-        Reading::Refused(number) => number,
+        Ok(_) => ACCEPTED,
+        Err(refusal) => refusal.number(),
     }
 }
 
@@ -125,13 +98,13 @@ fn number_of(reading: Reading) -> u64
 pub fn join(first: &[u8], second: &[u8], buffer: &mut [u8]) -> Joined
     ensures { Joins first.now second.now buffer.old buffer.new result }
 {
-    let reading = read(first);
-    let Reading::Accepted(a) = reading else {
+    let reading = read_job(first);
+    let Ok(a) = reading else {
         return refused(number_of(reading));
     };
-    let other = read(second);
-    let Reading::Accepted(b) = other else {
+    let other = read_job(second);
+    let Ok(b) = other else {
         return refused(number_of(other));
     };
-    join_jobs(with_weights(first, a), with_weights(second, b), buffer)
+    join_jobs(a, b, buffer)
 }

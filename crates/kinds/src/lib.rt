@@ -27,15 +27,13 @@ fn kind_of(s: &[u8], i: usize) -> u64
 pub fn index_of(s: &[u8], k: u64) -> usize
     ensures { Ranged (index_of s.now k) (2 ^ 8) result }
 {
-    let m = section_count(s);
-    let mut i: usize = 0;
-    while i + 1 < m {
+    let last = section_count(s) - 1;
+    for i in 0..last {
         if kind_of(s, i) == k {
             return i;
         }
-        i += 1;
     }
-    i
+    last
 }
 
 pub fn has_kind(s: &[u8], k: u64) -> bool
@@ -48,14 +46,11 @@ pub fn has_kind(s: &[u8], k: u64) -> bool
 fn count_of(s: &[u8], k: u64) -> usize
     ensures { result ≡ counted s.now k (sections s.now) }
 {
-    let m = section_count(s);
     let mut n: usize = 0;
-    let mut j: usize = 0;
-    while j < m {
+    for j in 0..section_count(s) {
         if kind_of(s, j) == k {
             n += 1;
         }
-        j += 1;
     }
     n
 }
@@ -63,15 +58,7 @@ fn count_of(s: &[u8], k: u64) -> usize
 fn is_one_of_each(s: &[u8]) -> bool
     ensures { result ≡ one_of_each s.now }
 {
-    let m = section_count(s);
-    let mut j: usize = 0;
-    while j < m {
-        if count_of(s, (j + 1) as u64) != 1 {
-            return false;
-        }
-        j += 1;
-    }
-    true
+    (0..section_count(s)).all(|j| count_of(s, (j + 1) as u64) == 1)
 }
 
 // How long a section of the kind k is in a sheet of n tasks; 0, as no section is, for any other number.
@@ -101,13 +88,5 @@ pub fn bad_kinds(s: &[u8]) -> bool
     if !is_one_of_each(s) {
         return true;
     }
-    let m = section_count(s);
-    let mut i: usize = 0;
-    while i < m {
-        if wrong_length(s, i) {
-            return true;
-        }
-        i += 1;
-    }
-    false
+    (0..section_count(s)).any(|i| wrong_length(s, i))
 }

@@ -3,39 +3,37 @@
 
 ghost use Rattle.std.specs.Prelude.{◌≡◌};
 ghost use Rattle.refusals.specs.Refusals.{first};
+ghost use Rattle.refusals.specs.Checks.{told};
 ghost use Rattle.layout.specs.Layout.{section_conditions, layout_conditions};
 
 use extents::{bad_extents, is_contiguous};
-use header::header_refusal;
+use header::check_header;
 use kinds::bad_kinds;
-use refusals::{BAD_EXTENTS, BAD_KINDS, STRAY_BYTE};
+use refusals::Refusal;
 
-// The first of checks 5, 28 and 6 that holds, or 0.
-fn section_refusal(s: &[u8]) -> u64
-    ensures { result ≡ first (section_conditions s.now) }
+// The first of checks 5, 28 and 6 that holds.
+fn check_sections(s: &[u8]) -> Result<(), Refusal>
+    ensures { told result ≡ first (section_conditions s.now) }
 {
     let misplaced = bad_extents(s);
     let stray = !is_contiguous(s);
     let odd = bad_kinds(s);
     if misplaced {
-        return BAD_EXTENTS;
+        return Err(Refusal::BadExtents);
     }
     if stray {
-        return STRAY_BYTE;
+        return Err(Refusal::StrayByte);
     }
     if odd {
-        return BAD_KINDS;
+        return Err(Refusal::BadKinds);
     }
-    0
+    Ok(())
 }
 
-// The first of checks 1 to 6 that holds, or 0.
-pub fn layout_refusal(s: &[u8]) -> u64
-    ensures { result ≡ first (layout_conditions s.now) }
+// The first of checks 1 to 6 that holds.
+pub fn check_layout(s: &[u8]) -> Result<(), Refusal>
+    ensures { told result ≡ first (layout_conditions s.now) }
 {
-    let number = header_refusal(s);
-    if number != 0 {
-        return number;
-    }
-    section_refusal(s)
+    check_header(s)?;
+    check_sections(s)
 }

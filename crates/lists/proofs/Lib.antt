@@ -1,2 +1,3 @@
 -- The laws of lists and tests that the crates above cite.
 pub mod Lists
+pub mod Ranges

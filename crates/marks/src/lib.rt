@@ -3,6 +3,7 @@
 
 ghost use Rattle.std.specs.Prelude.{◌≡◌, false, ◌<◌};
 ghost use Rattle.refusals.specs.Refusals.{first};
+ghost use Rattle.refusals.specs.Checks.{told};
 ghost use Rattle.job.specs.Working.Sound.{Sound};
 ghost use Rattle.marks.specs.Pays.{pays_of};
 ghost use Rattle.marks.specs.Marks.{bad_marks, bad_stretches, marks_conditions};
@@ -11,7 +12,7 @@ ghost use Rattle.marks.specs.Working.Ready.{ReadyForStretches};
 use chain::DISK;
 use job::Job;
 use job::stretch::is_allowed;
-use refusals::{BAD_MARKS, BAD_STRETCH};
+use refusals::Refusal;
 
 // Which of V, C_M and C_D a passed mark pays.
 #[derive(Clone, Copy)]
@@ -62,12 +63,10 @@ fn bad_marks(n: usize, marks: &[u8]) -> bool
     if marks.len() != n {
         return true;
     }
-    let mut j: usize = 0;
-    while j < n {
+    for j in 0..n {
         if DISK < marks[j] {
             return true;
         }
-        j += 1;
     }
     marks[n - 1] != DISK
 }
@@ -81,8 +80,7 @@ fn bad_stretches(job: Job, marks: &[u8]) -> bool
     let weights = job.weights;
     let mut heaviest: u64 = 0;
     let mut weight: u64 = 0;
-    let mut j: usize = 0;
-    while j < n {
+    for j in 0..n {
         weight += weights[j] as u64;
         if marks[j] != 0 {
             if heaviest < weight {
@@ -90,21 +88,20 @@ fn bad_stretches(job: Job, marks: &[u8]) -> bool
             }
             weight = 0;
         }
-        j += 1;
     }
     !is_allowed(job.platform, heaviest)
 }
 
-// The first of checks 9 and 10 that holds, or 0. The job has passed checks 3, 7 and 8.
-pub fn marks_refusal(job: Job, marks: &[u8]) -> u64
+// The first of checks 9 and 10 that holds. The job has passed checks 3, 7 and 8.
+pub fn check_marks(job: Job, marks: &[u8]) -> Result<(), Refusal>
     requires { Sound job }
-    ensures { result ≡ first (marks_conditions job marks.now) }
+    ensures { told result ≡ first (marks_conditions job marks.now) }
 {
     if bad_marks(job.tasks, marks) {
-        return BAD_MARKS;
+        return Err(Refusal::BadMarks);
     }
     if bad_stretches(job, marks) {
-        return BAD_STRETCH;
+        return Err(Refusal::BadStretch);
     }
-    0
+    Ok(())
 }

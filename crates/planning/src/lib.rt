@@ -3,6 +3,7 @@
 
 ghost use Rattle.costs.specs.Energy.{energy_chain};
 ghost use Rattle.planning.specs.Promise.{Plans};
+ghost use Rattle.refusals.specs.Checks.{answer_of};
 ghost use Rattle.answers.specs.Promise.{PlansChain};
 ghost use Rattle.planning.specs.Working.Ready.{ReadyForTables, ReadyForPowers};
 
@@ -10,7 +11,7 @@ use bounds::BOUNDS_LENGTH;
 use costs::Powers;
 use filling::fill;
 use job::Job;
-use refusals::{Answer, SHORT_BUFFER, refused};
+use refusals::{Answer, Refusal, answered};
 use search::plan_chain;
 use sheet::read::read_job;
 use table::TABLE_LENGTH;
@@ -24,9 +25,9 @@ fn plan_by(
     powers: Powers,
     job: Job,
     buffer: &mut [u8],
-) -> Answer
+) -> Result<u64, Refusal>
     requires { ReadyForTables table.old bounds.old powers job buffer.old }
-    ensures { PlansChain (energy_chain powers job) job.tasks buffer.old buffer.new result }
+    ensures { PlansChain (energy_chain powers job) job.tasks buffer.old buffer.new (answer_of result) }
 {
     fill(table, powers, job);
     plan_chain(table, bounds, job.tasks, buffer)
@@ -34,9 +35,9 @@ fn plan_by(
 
 // The same, by arrays for the longest chain. This is the one class of sizes: a class of shorter arrays is one more function of this kind, and a branch to it by the task
 // count.
-fn plan_job(powers: Powers, job: Job, buffer: &mut [u8]) -> Answer
+fn plan_job(powers: Powers, job: Job, buffer: &mut [u8]) -> Result<u64, Refusal>
     requires { ReadyForPowers powers job buffer.old }
-    ensures { PlansChain (energy_chain powers job) job.tasks buffer.old buffer.new result }
+    ensures { PlansChain (energy_chain powers job) job.tasks buffer.old buffer.new (answer_of result) }
 {
     let mut table = [0u32; TABLE_LENGTH];
     let mut bounds = [0u64; BOUNDS_LENGTH];
@@ -44,16 +45,19 @@ fn plan_job(powers: Powers, job: Job, buffer: &mut [u8]) -> Answer
 }
 
 // The plan of the sheet, or the first of checks 1 to 8, 11 and 13 that holds.
+fn plan_sheet(s: &[u8], buffer: &mut [u8]) -> Result<u64, Refusal>
+    ensures { Plans s.now buffer.old buffer.new (answer_of result) }
+{
+    let job = read_job(s)?;
+    if buffer.len() < job.tasks {
+        return Err(Refusal::ShortBuffer);
+    }
+    plan_job(Powers::plain(), job, buffer)
+}
+
+// The same as an answer.
 pub fn plan(s: &[u8], buffer: &mut [u8]) -> Answer
     ensures { Plans s.now buffer.old buffer.new result }
 {
-    let reading = read_job(s);
-    if reading.number != 0 {
-        return refused(reading.number);
-    }
-    let job = reading.job;
-    if buffer.len() < job.tasks {
-        return refused(SHORT_BUFFER);
-    }
-    plan_job(Powers::plain(), job, buffer)
+    answered(plan_sheet(s, buffer))
 }

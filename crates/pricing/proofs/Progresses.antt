@@ -1,6 +1,6 @@
 -- What pricing carries is what document 01 says: after j tasks it has the weight since the last mark, the last copies, Q', M' and D(d) as seen
 -- from position j + 1. The step past a mark is one application of the equations of Q, M and D. Assumes nothing.
-use Prim.Native.Nat.{ℕ, zero, suc, ◌+◌, ◌-◌, ◌≤◌, ◌<◌, min}
+use Prim.Native.Nat.{ℕ, zero, suc, ◌+◌, ◌≤◌, ◌<◌, min}
 use mathlib.Core.Path.{◌≡◌, refl, sym, ◌∙◌}
 use mathlib.Core.Bool.{true, false}
 use mathlib.Core.List.{List}

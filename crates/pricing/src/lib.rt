@@ -5,13 +5,14 @@
 ghost use Rattle.std.specs.Prelude.{◌≡◌, min};
 ghost use Rattle.units.specs.Limits.{none};
 ghost use Rattle.costs.specs.Stretch.{time_of};
+ghost use Rattle.refusals.specs.Checks.{answer_of};
 ghost use Rattle.pricing.specs.Price.{price_of};
 ghost use Rattle.pricing.specs.Working.Ready.{ReadyForTime};
 
 use job::Job;
-use marks::marks_refusal;
+use marks::check_marks;
 use progress::{Progress, past_mark};
-use refusals::{Answer, TOO_SLOW, accepted, refused};
+use refusals::{Answer, Refusal, answered};
 use sheet::read::read_job;
 use units::NONE;
 
@@ -20,8 +21,6 @@ fn setting_time(job: Job, marks: &[u8]) -> u64
     requires { ReadyForTime job marks.now }
     ensures { result ≡ min none (time_of job marks.now) }
 {
-    let job = job;
-    let n = job.tasks;
     let weights = job.weights;
     let mut s = Progress {
         weight: 0,
@@ -31,34 +30,32 @@ fn setting_time(job: Job, marks: &[u8]) -> u64
         mt: 0,
         dt: 0,
     };
-    let mut j: usize = 0;
-    while j < n {
+    for j in 0..job.tasks {
         s.weight += weights[j] as u64;
         s = past_mark(job, s, j + 1, marks[j]);
         if NONE <= s.dt + s.mt + s.q {
             return NONE;
         }
-        j += 1;
     }
     s.dt
 }
 
 // The time of the marks under the sheet, or the first of checks 1 to 10 and 13 that holds.
+fn priced(s: &[u8], marks: &[u8]) -> Result<u64, Refusal>
+    ensures { answer_of result ≡ price_of s.now marks.now }
+{
+    let job = read_job(s)?;
+    check_marks(job, marks)?;
+    let time = setting_time(job, marks);
+    if NONE <= time {
+        return Err(Refusal::TooSlow);
+    }
+    Ok(time)
+}
+
+// The same as an answer.
 pub fn price(s: &[u8], marks: &[u8]) -> Answer
     ensures { result ≡ price_of s.now marks.now }
 {
-    let reading = read_job(s);
-    if reading.number != 0 {
-        return refused(reading.number);
-    }
-    let job = reading.job;
-    let number = marks_refusal(job, marks);
-    if number != 0 {
-        return refused(number);
-    }
-    let time = setting_time(job, marks);
-    if NONE <= time {
-        return refused(TOO_SLOW);
-    }
-    accepted(time)
+    answered(priced(s, marks))
 }

@@ -1,67 +1,58 @@
-// The numbers of document 01's refusals and of the requests', the number of a call that is accepted, and the answer that has a number and a time.
+// Document 01's refusals and the requests', each with its number, the number of a call that is accepted, and the answer that has a number and a time.
 // The conditions stand in the crates that test them.
 #![tactic(auto)]
 
 ghost use Rattle.std.specs.Prelude.{◌≡◌};
 ghost use Rattle.refusals.specs.Answers.{refused, accepted};
+ghost use Rattle.refusals.specs.Checks.{number, answer_of};
 
+// What an accepted call has in a refusal's place.
 pub const ACCEPTED: u64 = 0;
 
-// Of a sheet.
-pub const BAD_LENGTH: u64 = 1;
+// Why a call is refused, each with its number.
+#[derive(Clone, Copy, Debug, PartialEq, Eq)]
+pub enum Refusal {
+    // Of a sheet.
+    BadLength = 1,
+    BadForm = 2,
+    BadCount = 3,
+    BadSections = 4,
+    BadExtents = 5,
+    BadKinds = 6,
+    BadValue = 7,
+    BadTask = 8,
+    // Of marks that a user supplies, of a buffer, of a log and of a time.
+    BadMarks = 9,
+    BadStretch = 10,
+    ShortBuffer = 11,
+    BadRecord = 12,
+    TooSlow = 13,
+    // Of the state of a run.
+    Broken = 21,
+    Finished = 22,
+    OutOfTurn = 23,
+    OverWeight = 24,
+    OverTotal = 25,
+    // Of two sheets.
+    OtherPlatform = 26,
+    // Of a sheet for the equations as printed.
+    LongChain = 27,
+    // Of a sheet, by request 105: tested after 5 and before 6.
+    StrayByte = 28,
+    // Of the powers of a plan by energy, by request 106: tested after 8 and before 11.
+    BadPower = 29,
+    // Of the names that a run holds, by request 109: tested after 21.
+    NotHeld = 30,
+    NamesFull = 31,
+}
 
-pub const BAD_FORM: u64 = 2;
-
-pub const BAD_COUNT: u64 = 3;
-
-pub const BAD_SECTIONS: u64 = 4;
-
-pub const BAD_EXTENTS: u64 = 5;
-
-pub const BAD_KINDS: u64 = 6;
-
-pub const BAD_VALUE: u64 = 7;
-
-pub const BAD_TASK: u64 = 8;
-
-// Of marks that a user supplies, of a buffer, of a log and of a time.
-pub const BAD_MARKS: u64 = 9;
-
-pub const BAD_STRETCH: u64 = 10;
-
-pub const SHORT_BUFFER: u64 = 11;
-
-pub const BAD_RECORD: u64 = 12;
-
-pub const TOO_SLOW: u64 = 13;
-
-// Of the state of a run.
-pub const BROKEN: u64 = 21;
-
-pub const FINISHED: u64 = 22;
-
-pub const OUT_OF_TURN: u64 = 23;
-
-pub const OVER_WEIGHT: u64 = 24;
-
-pub const OVER_TOTAL: u64 = 25;
-
-// Of two sheets.
-pub const OTHER_PLATFORM: u64 = 26;
-
-// Of a sheet for the equations as printed.
-pub const LONG_CHAIN: u64 = 27;
-
-// Of a sheet, by request 105: tested after 5 and before 6.
-pub const STRAY_BYTE: u64 = 28;
-
-// Of the powers of a plan by energy, by request 106: tested after 8 and before 11.
-pub const BAD_POWER: u64 = 29;
-
-// Of the names that a run holds, by request 109: tested after 21.
-pub const NOT_HELD: u64 = 30;
-
-pub const NAMES_FULL: u64 = 31;
+impl Refusal {
+    pub fn number(self) -> u64
+        ensures { result ≡ number self }
+    {
+        self as u64
+    }
+}
 
 // The answer to a call: number 0 and the time, or the number of its refusal and time 0. A plan by energy has its energy in place of the time.
 #[repr(C)]
@@ -83,5 +74,15 @@ pub fn accepted(time: u64) -> Answer
     Answer {
         number: ACCEPTED,
         time,
+    }
+}
+
+// The answer that tells a time or a refusal.
+pub fn answered(time: Result<u64, Refusal>) -> Answer
+    ensures { result ≡ answer_of time }
+{
+    match time {
+        Ok(time) => accepted(time),
+        Err(refusal) => refused(refusal.number()),
     }
 }

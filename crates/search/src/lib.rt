@@ -17,21 +17,27 @@
 #![tactic(auto)]
 
 ghost use Rattle.table.specs.Working.Table.{chain_in};
+ghost use Rattle.refusals.specs.Checks.{answer_of};
 ghost use Rattle.answers.specs.Promise.{PlansChain};
 ghost use Rattle.search.specs.Working.Ready.{ReadyForChain};
 
 use answers::copy_marks;
 use bounding::fill_bounds;
 use finding::find;
-use refusals::{Answer, TOO_SLOW, accepted, refused};
+use refusals::Refusal;
 use units::NONE;
 use walk::plan_marks;
 
 // The plan of the chain that the table t holds, of n tasks, for a buffer that holds its marks; b is lent for the bounds. Planning calls this, with arrays that are long
 // enough for n. The time is known to fit before a byte is written.
-pub fn plan_chain(t: &[u32], b: &mut [u64], n: usize, buffer: &mut [u8]) -> Answer
+pub fn plan_chain(
+    t: &[u32],
+    b: &mut [u64],
+    n: usize,
+    buffer: &mut [u8],
+) -> Result<u64, Refusal>
     requires { ReadyForChain t.now b.old n buffer.old }
-    ensures { PlansChain (chain_in t.now) n buffer.old buffer.new result }
+    ensures { PlansChain (chain_in t.now) n buffer.old buffer.new (answer_of result) }
 {
     fill_bounds(b, t, n);
     let disks = find(t, b, n);
@@ -39,9 +45,9 @@ pub fn plan_chain(t: &[u32], b: &mut [u64], n: usize, buffer: &mut [u8]) -> Answ
     let backs = disks.backs;
     let least = time[n];
     if NONE <= least {
-        return refused(TOO_SLOW);
+        return Err(Refusal::TooSlow);
     }
     let marks = plan_marks(t, b, &time, &backs, n);
     copy_marks(buffer, marks, n);
-    accepted(least)
+    Ok(least)
 }

@@ -25,7 +25,7 @@ use Rattle.layout.proofs.Sections.{layout_passed, layout_tasks}
 use Rattle.layout.proofs.Whole.{same_parts}
 use Rattle.layout.proofs.Alike.{kind_length, kind_known, length_section, first_byte, same_sections, same_order, header_same, kinds_stay}
 use Rattle.sheet.specs.Reading.{section_field, platform_of, weights_of, job_of, sheet_refusal, reading_of}
-use Rattle.sheet.specs.declared.JobReading.{JobReading}
+use Rattle.sheet.specs.Reading.{JobReading}
 use Rattle.sheet.proofs.Readings.{sheet_layout, reading_number, reading_job}
 
 -- the seven fields of a platform

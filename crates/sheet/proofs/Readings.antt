@@ -2,19 +2,22 @@
 use Prim.Native.Nat.{ℕ, ◌<◌}
 use mathlib.Core.Path.{◌≡◌, refl, sym, ◌∙◌}
 use mathlib.Core.List.{List}
-use borrow.Author.Tests.{eq-eqb, ne_eqb}
-use lib.ListN.{take, drop}
+use mathlib.Core.Bool.{false≢true}
+use borrow.Author.Tests.{eq-eqb}
+use Rattle.std.specs.Result.{IsErr}
+use Rattle.std.proofs.Common.{Result, Ok, Err}
 use Rattle.refusals.specs.Refusals.{first, has, distinct, Numbered}
 use Rattle.refusals.proofs.Refusals.{first_stands, first_goes_on, first_none}
+use Rattle.refusals.specs.Checks.{told}
+use Rattle.refusals.specs.declared.Refusal.{Refusal}
+use Rattle.refusals.proofs.Checks.{tells_told}
 use Rattle.job.specs.Checks.{job_conditions}
 use Rattle.job.specs.Working.Sound.{Sound}
 use Rattle.job.specs.declared.Job.{Job}
 use Rattle.job.proofs.Ranges.{job_sound}
-use Rattle.header.specs.Header.{tasks, section}
-use Rattle.kinds.specs.Kinds.{weights_length}
 use Rattle.layout.specs.Layout.{layout_conditions}
-use Rattle.sheet.specs.Reading.{weights_of, job_of, sheet_conditions, sheet_refusal, refused_reading, reading_of, sheet_of}
-use Rattle.layout.proofs.Sections.{layout_numbered, layout_count, layout_weights}
+use Rattle.sheet.specs.Reading.{job_of, sheet_conditions, sheet_refusal, reading_of, Reads}
+use Rattle.layout.proofs.Sections.{layout_numbered, layout_count}
 
 pub sheet_numbered : (s : List ℕ) → Numbered (sheet_conditions s)
 unfolding has distinct
@@ -41,13 +44,18 @@ module _ (s : List ℕ) where
       job_sound (job_of s) (layout_count s clear) (sheet_goes_on clear ∙ e)
 
   -- the two answers of a reading
-  pub reading_refused : (number : ℕ) → number ≡ sheet_refusal s → (number ≡ 0 → ⊥) → refused_reading number ≡ reading_of s
+  pub reading_refused : (r : Result Job Refusal) → IsErr r → told r ≡ sheet_refusal s → Reads s r
   unfolding reading_of
-  reading_refused number e h = rw (← e, ne_eqb number 0 h)
+  reading_refused (Ok job) failed e = absurd (false≢true failed)
+  reading_refused (Err refusal) failed e = sym e
 
-  pub reading_accepted : (job : Job) → 0 ≡ sheet_refusal s → job ≡ job_of s → record { number = 0; job = job } ≡ reading_of s
+  pub reading_accepted : (job : Job) → 0 ≡ sheet_refusal s → job ≡ job_of s → Reads s (Ok job)
   unfolding reading_of
-  reading_accepted job e h = rw (← e, h)
+  reading_accepted job e h = (sym e, rw (← e, h) refl)
+
+  pub reading_given : (job : Job) → 0 ≡ sheet_refusal s → job ≡ job_of s → record { number = 0; job = job } ≡ reading_of s
+  unfolding reading_of
+  reading_given job e h = rw (← e, h)
 
   -- and what each says of the sheet
   pub reading_number : (reading_of s).number ≡ sheet_refusal s
@@ -58,11 +66,12 @@ module _ (s : List ℕ) where
   unfolding reading_of
   reading_job e = rw (eq-eqb (sheet_refusal s) 0 e)
 
-  -- the values in numbers alone are those of the job: its weights are the fields from where their section starts
-  pub sheet_job : sheet_refusal s ≡ 0 → job_of s ≡ record {
-    tasks = (sheet_of s).tasks;
-    platform = (sheet_of s).platform;
-    weights = weights_of (take (weights_length (sheet_of s).tasks) (drop (sheet_of s).weights s)) (sheet_of s).tasks;
-  }
-  unfolding job_of sheet_of section
-  sheet_job e = rw (layout_weights s (sheet_layout e))
+  -- what reading tells: a refusal's number, and the values of an accepted sheet
+  pub read_told : (r : Result Job Refusal) → Reads s r → told r ≡ sheet_refusal s
+  read_told r reads = tells_told r _ _ reads ∙ reading_number
+
+  pub read_accepted : {job : Job} (r : Result Job Refusal) → r ≡ Ok job → Reads s r → (sheet_refusal s ≡ 0) × (job ≡ job_of s)
+  read_accepted r e reads =
+      let said = rw e at reads in
+      let accepted = sym reading_number ∙ said.0 in
+      (accepted, said.1 ∙ reading_job accepted)

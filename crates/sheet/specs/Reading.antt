@@ -1,7 +1,9 @@
 -- What reading a sheet gives: its values, or the first of checks 1 to 8 that holds.
-use Rattle.std.specs.Prelude.{ℕ, ◌+◌, ◌*◌, ◌<◌, ◌≡◌, cond, List, ◌++◌, ltb, eqb}
+use Rattle.std.specs.Prelude.{ℕ, ◌+◌, ◌*◌, cond, List, ◌++◌, ltb, eqb, Result}
 use Rattle.lists.specs.Lists.{tabulate}
 use Rattle.refusals.specs.Refusals.{Condition, first}
+use Rattle.refusals.specs.Checks.{Tells}
+use Rattle.refusals.specs.declared.Refusal.{Refusal}
 use Rattle.units.specs.Limits.{task_limit}
 use Rattle.job.specs.Job.{zero_job}
 use Rattle.job.specs.Checks.{job_conditions}
@@ -11,10 +13,6 @@ use Rattle.fields.specs.Bytes.{field_at, field_length}
 use Rattle.kinds.specs.Kinds.{platform_kind, weights_kind, index_of}
 use Rattle.header.specs.Header.{tasks, offset, section}
 use Rattle.layout.specs.Layout.{layout_conditions}
-use Rattle.sheet.specs.declared.Sheet.{Sheet}
-use Rattle.sheet.specs.declared.JobReading.{JobReading}
-use Rattle.sheet.specs.declared.Reading.{Reading}
-use Rattle.sheet.specs.declared.Reading.TheVariants.{Accepted, Refused}
 
 -- field i of a section, from 0: they follow its kind byte
 abbrev pub section_field : List ℕ → ℕ → ℕ
@@ -54,6 +52,11 @@ sheet_conditions s = layout_conditions s ++ job_conditions (job_of s)
 unfoldable pub sheet_refusal : List ℕ → ℕ
 sheet_refusal s = first (sheet_conditions s)
 
+-- a reading in numbers: 0 and the values, or the number of a refusal and values that are all 0
+pub record JobReading : Type 0 where
+  pub number : ℕ
+  pub job : Job
+
 -- a refused reading: its number, and values that are all 0
 abbrev pub refused_reading : ℕ → JobReading
 refused_reading number = record { number = number; job = zero_job }
@@ -62,20 +65,6 @@ refused_reading number = record { number = number; job = zero_job }
 unfoldable pub reading_of : List ℕ → JobReading
 reading_of s = record { number = sheet_refusal s; job = cond (eqb (sheet_refusal s) 0) (job_of s) zero_job }
 
--- the same values as numbers alone: the weights by where their section starts
-unfoldable pub sheet_of : List ℕ → Sheet
-sheet_of s =
-    record {
-      tasks = tasks s;
-      platform = platform_of (section s (index_of s platform_kind));
-      weights = offset s (index_of s weights_kind);
-    }
-
--- each case of an answer: number 0 and the values, or the number of the refusal, which is never 0
-unfoldable pub Says : Reading → (number : ℕ) → (values : Sheet) → Type 0
-Says (Accepted v) number values = (number ≡ 0) × (v ≡ values)
-Says (Refused r) number values = (number ≡ r) × (0 < r)
-
--- what reading the sheet s gives: its values, or the number of the first of checks 1 to 8 that holds
-abbrev pub Reads : List ℕ → Reading → Type 0
-Reads s r = Says r (sheet_refusal s) (sheet_of s)
+-- what reading the sheet s tells: its values, or the number of the first of checks 1 to 8 that holds
+abbrev pub Reads : List ℕ → Result Job Refusal → Type 0
+Reads s r = Tells r (reading_of s).number (reading_of s).job

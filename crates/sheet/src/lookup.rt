@@ -1,42 +1,39 @@
 // Lookup by kind: the stretch of the caller's own sheet that is the section of that kind.
 ghost use Rattle.std.specs.Prelude.{◌≡◌};
+ghost use Rattle.refusals.specs.Checks.{told};
 ghost use Rattle.sheet.specs.Lookup.{lookup_refusal, found_of, View};
 
 use crate::Found;
 use header::{offset_of, size_of};
 use kinds::{has_kind, index_of};
-use layout::layout_refusal;
-use refusals::BAD_KINDS;
+use layout::check_layout;
+use refusals::{ACCEPTED, Refusal};
 
-// The first of checks 1 to 6 that holds, 6 for a kind that the sheet lacks, or 0.
-fn lookup_refusal(s: &[u8], k: u64) -> u64
-    ensures { result ≡ lookup_refusal s.now k }
+// The first of checks 1 to 6 that holds, 6 for a kind that the sheet lacks.
+fn check_lookup(s: &[u8], k: u64) -> Result<(), Refusal>
+    ensures { told result ≡ lookup_refusal s.now k }
 {
-    let number = layout_refusal(s);
-    if number != 0 {
-        return number;
-    }
+    check_layout(s)?;
     if !has_kind(s, k) {
-        return BAD_KINDS;
+        return Err(Refusal::BadKinds);
     }
-    0
+    Ok(())
 }
 
 // The number of a lookup, and where its stretch lies.
 pub fn find(s: &[u8], k: u64) -> Found
     ensures { result ≡ found_of s.now k }
 {
-    let number = lookup_refusal(s, k);
-    if number != 0 {
+    if let Err(refusal) = check_lookup(s, k) {
         return Found {
-            number,
+            number: refusal.number(),
             start: 0,
             size: 0,
         };
     }
     let i = index_of(s, k);
     Found {
-        number: 0,
+        number: ACCEPTED,
         start: offset_of(s, i),
         size: size_of(s, i),
     }

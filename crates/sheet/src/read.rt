@@ -3,16 +3,16 @@ ghost use Rattle.std.specs.Prelude.{◌≡◌, ◌<◌, ◌≤◌, ◌^◌};
 ghost use Rattle.refusals.specs.Refusals.{first};
 ghost use Rattle.units.specs.Limits.{task_limit};
 ghost use Rattle.layout.specs.Layout.{layout_conditions};
-ghost use Rattle.sheet.specs.Reading.{section_field, platform_of, weights_of, job_of, refused_reading, reading_of, Reads};
+ghost use Rattle.sheet.specs.Reading.{section_field, platform_of, weights_of, job_of, Reads};
 
-use crate::lookup::{find, lookup};
-use crate::{JobReading, Reading, Sheet};
+use crate::lookup::lookup;
 use fields::{FIELD_LENGTH, field};
 use header::task_count;
-use job::checks::job_refusal;
+use job::checks::check_job;
 use job::{Job, Platform};
 use kinds::{PLATFORM_KIND, WEIGHTS_KIND};
-use layout::layout_refusal;
+use layout::check_layout;
+use refusals::Refusal;
 use units::TASK_LIMIT;
 
 // Field i of a section, from 0: they follow its kind byte.
@@ -44,10 +44,8 @@ pub fn weights_of(part: &[u8], n: usize) -> [u32; TASK_LIMIT]
     ensures { result ≡ weights_of part.now n }
 {
     let mut weights = [0u32; TASK_LIMIT];
-    let mut j: usize = 0;
-    while j < n {
+    for j in 0..n {
         weights[j] = section_field(part, j);
-        j += 1;
     }
     weights
 }
@@ -67,45 +65,12 @@ fn job_of(s: &[u8]) -> Job
     }
 }
 
-fn refused_reading(number: u64) -> JobReading
-    ensures { result ≡ refused_reading number }
-{
-    JobReading {
-        number,
-        job: Job::zero(),
-    }
-}
-
-// The values of a sheet with its weights, or the first of checks 1 to 8 that holds.
-pub fn read_job(s: &[u8]) -> JobReading
-    ensures { result ≡ reading_of s.now }
-{
-    let number = layout_refusal(s);
-    if number != 0 {
-        return refused_reading(number);
-    }
-    let job = job_of(s);
-    let number = job_refusal(job);
-    if number != 0 {
-        return refused_reading(number);
-    }
-    JobReading { number: 0, job }
-}
-
-// The same as an enum, which a caller takes apart by let .. else.
-pub fn read(s: &[u8]) -> Reading
+// The values of a sheet, or the first of checks 1 to 8 that holds.
+pub fn read_job(s: &[u8]) -> Result<Job, Refusal>
     ensures { Reads s.now result }
 {
-    let reading = read_job(s);
-    if reading.number != 0 {
-        return Reading::Refused(reading.number);
-    }
-    let job = reading.job;
-    let platform = job.platform;
-    let found = find(s, WEIGHTS_KIND);
-    Reading::Accepted(Sheet {
-        tasks: job.tasks,
-        platform,
-        weights: found.start,
-    })
+    check_layout(s)?;
+    let job = job_of(s);
+    check_job(job)?;
+    Ok(job)
 }

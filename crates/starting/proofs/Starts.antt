@@ -1,44 +1,37 @@
 -- A start by its answers: the sheet's checks decide before those of the marks, and an accepted start has a mark for each task. Assumes nothing.
-use Prim.Native.Nat.{ℕ}
-use mathlib.Core.Path.{◌≡◌, sym, ◌∙◌, ap}
+use Prim.Native.Nat.{ℕ, ◌<◌}
+use mathlib.Core.Path.{◌≡◌, refl}
+use mathlib.Core.Bool.{false≢true}
 use mathlib.Core.List.{List}
-use native.Mathlib.Nat.{pos_of_ne-zero}
+use native.Mathlib.Omega.{arith}
+use Rattle.std.specs.Result.{IsErr}
+use Rattle.std.proofs.Common.{Result, Ok, Err}
+use Rattle.refusals.specs.Checks.{told}
+use Rattle.refusals.specs.declared.Refusal.{Refusal}
 use borrow.Author.Tests.{ne_eqb}
 use lib.ListN.{length}
 use Rattle.refusals.specs.Numbers
 use Rattle.refusals.specs.Refusals.{first}
 use Rattle.refusals.proofs.Refusals.{first_stands, first_goes_on}
-use Rattle.job.specs.Working.Sound.{Sound}
-use Rattle.sheet.specs.Reading.{sheet_conditions, sheet_refusal, job_of, reading_of}
-use Rattle.sheet.specs.declared.JobReading.{JobReading}
-use Rattle.sheet.proofs.Readings.{sheet_numbered, sheet_sound, reading_number, reading_job}
+use Rattle.sheet.specs.Reading.{sheet_conditions, sheet_refusal, job_of}
+use Rattle.sheet.proofs.Readings.{sheet_numbered}
 use Rattle.marks.specs.Marks.{marks_conditions}
 use Rattle.marks.proofs.Stretches.{marks_length, marks_passed}
-use Rattle.starting.specs.Start.{refused_start, start_refusal, start_of}
+use Rattle.starting.specs.Start.{refused_start, start_refusal, start_of, started}
 use Rattle.state.specs.State.{fresh}
+use Rattle.state.specs.declared.Run.{Run}
 
--- what an accepted reading gives
-pub record SheetRead (s : List ℕ) (reading : JobReading) : Type 0 where
-  pub clear : sheet_refusal s ≡ 0
-  pub job : reading.job ≡ job_of s
-  pub sound : Sound reading.job
+-- a start that is refused
+pub started_refused : (r : Result Run Refusal) {code : ℕ} → IsErr r → told r ≡ code → started r ≡ refused_start code
+started_refused (Ok run) failed e = absurd (false≢true failed)
+started_refused (Err refusal) failed e = rw e refl
 
-module _ (s : List ℕ) (reading : JobReading) (is : reading ≡ reading_of s) where
-  number_is : reading.number ≡ sheet_refusal s
-  number_is = ap (λ (r : JobReading). r.number) is ∙ reading_number s
-
-  pub sheet_read : reading.number ≡ 0 → SheetRead s reading
-  sheet_read e =
-      let clear = sym number_is ∙ e in
-      let same : reading.job ≡ job_of s = ap (λ (r : JobReading). r.job) is ∙ reading_job s clear in
-      record { clear = clear; job = same; sound = rw same (sheet_sound s clear) }
-
-  -- the sheet's refusal stands
-  pub start_by_sheet : (marks : List ℕ) → (reading.number ≡ 0 → ⊥) → refused_start reading.number ≡ start_of s marks
-  unfolding start_of start_refusal sheet_refusal
-  start_by_sheet marks h =
-      let stands = first_stands (sheet_conditions s) (marks_conditions (job_of s) marks) (pos_of_ne-zero (λ z. h (number_is ∙ z))) in
-      rw (stands, ← number_is, ne_eqb _ _ h)
+-- the sheet's refusal stands
+pub start_by_sheet : (s marks : List ℕ) → 0 < sheet_refusal s → refused_start (sheet_refusal s) ≡ start_of s marks
+unfolding start_of start_refusal sheet_refusal
+start_by_sheet s marks h =
+    let stands = first_stands (sheet_conditions s) (marks_conditions (job_of s) marks) h in
+    rw (stands, ne_eqb (first (sheet_conditions s)) 0 (λ z. omega (arith, h))) refl
 
 module _ (s marks : List ℕ) (clear : sheet_refusal s ≡ 0) where
   -- where it has none, the marks decide

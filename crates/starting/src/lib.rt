@@ -2,10 +2,10 @@
 #![tactic(auto)]
 
 ghost use Rattle.std.specs.Prelude.{◌≡◌};
-ghost use Rattle.starting.specs.Start.{refused_start, start_of};
+ghost use Rattle.starting.specs.Start.{refused_start, start_of, started};
 
-use marks::marks_refusal;
-use refusals::ACCEPTED;
+use marks::check_marks;
+use refusals::{ACCEPTED, Refusal};
 use sheet::read::read_job;
 use state::Run;
 
@@ -27,20 +27,24 @@ fn refused_start(number: u64) -> Started
     }
 }
 
+// The fresh run, or the first refusal among 1 to 10.
+fn fresh_run(sheet: &[u8], marks: &[u8]) -> Result<Run, Refusal>
+    ensures { started result ≡ start_of sheet.now marks.now }
+{
+    let job = read_job(sheet)?;
+    check_marks(job, marks)?;
+    Ok(Run::fresh(job, marks))
+}
+
 // The fresh run, or the first refusal among 1 to 10 and a state with every field 0.
 pub fn start(sheet: &[u8], marks: &[u8]) -> Started
     ensures { result ≡ start_of sheet.now marks.now }
 {
-    let reading = read_job(sheet);
-    if reading.number != 0 {
-        return refused_start(reading.number);
-    }
-    let number = marks_refusal(reading.job, marks);
-    if number != 0 {
-        return refused_start(number);
-    }
-    Started {
-        number: ACCEPTED,
-        run: Run::fresh(reading.job, marks),
+    match fresh_run(sheet, marks) {
+        Ok(run) => Started {
+            number: ACCEPTED,
+            run,
+        },
+        Err(refusal) => refused_start(refusal.number()),
     }
 }

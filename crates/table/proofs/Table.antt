@@ -172,9 +172,6 @@ module _ (t : List ℕ) (e : ℕ) (t' : List ℕ) (put : FirstsPut t e t') where
             rw (firsts_entry u v) (f.none_before u k);
       }
 
-pub firsts_none : (t : List ℕ) → FirstsPut t 0 t
-firsts_none t = record { long = refl; others = λ i h. refl; firsts = λ v h. absurd (omega arith) }
-
 pub firsts_more : (t : List ℕ) (v : ℕ) (t' : List ℕ) (r : ℕ) → FirstsPut t v t' → pairs_start ≤ length t → v < positions → FirstIs t' v r
     → FirstsPut t (v + 1) (set t' (first_start + v) r)
 unfolding column
@@ -200,10 +197,3 @@ firsts_more t v t' r put long few is =
 
 pub first_none : (t : List ℕ) (v : ℕ) → FirstIs t v 0
 first_none t v = record { within = omega arith; none_before = λ u h. absurd (omega arith) }
-
-pub first_more : (t : List ℕ) (v u : ℕ) → FirstIs t v u → u < v → (entry_of t u v).both ≡ 0 → FirstIs t v (u + 1)
-first_more t v u is h e = record { within = omega arith; none_before = λ w l. go w l (ℕ_discrete w u) }
-  where
-    go : (w : ℕ) → w < u + 1 → Dec (w ≡ u) → (entry_of t w v).both ≡ 0
-    go w l (yes i) = rw i e
-    go w l (no i) = is.none_before w (omega arith)

@@ -113,13 +113,11 @@ fn first_allowed(t: &[u32], v: usize) -> usize
     requires { ReadyForFirsts t.now v }
     ensures { FirstIs t.now v result }
 {
-    let mut u: usize = 0;
-    while u < v {
+    for u in 0..v {
         let f = entry(t, u, v);
         if f.both != 0 {
             return u;
         }
-        u += 1;
     }
     v
 }
@@ -129,11 +127,9 @@ pub fn put_firsts(t: &mut [u32], n: usize)
     requires { ReadyForFirsts t.old n }
     ensures { FirstsPut t.old (n + 1) t.new }
 {
-    let mut v: usize = 0;
-    while v <= n {
+    for v in 0..n + 1 {
         let first = first_allowed(t, v);
         put_in_column(t, FIRST_START, v, first as u64);
-        v += 1;
     }
 }
 

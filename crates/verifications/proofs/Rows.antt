@@ -60,10 +60,10 @@ module _ (N b : ℕ) (cost : Cost) (v : ℕ) where
 
   -- one more arrival, which is not before its start
   pub least_next : (u x best : ℕ) → b ≤ u → x ≡ cost u (reach N b cost u) v → reach N b cost u ≤ x → best ≡ least N (way N b cost v) u
-      → min x best ≡ least N (way N b cost v) (u + 1)
+      → min best x ≡ least N (way N b cost v) (u + 1)
   least_next u x best h e l i = let s : u + 1 ≡ suc u = omega arith in rw s (go (dec_lt (reach N b cost u) N) (dec_lt (way N b cost v u) best))
     where
-      go : Dec (reach N b cost u < N) → Dec (way N b cost v u < best) → min x best ≡ least N (way N b cost v) (suc u)
+      go : Dec (reach N b cost u < N) → Dec (way N b cost v u < best) → min best x ≡ least N (way N b cost v) (suc u)
       go (yes r) (yes n) = omega (arith, i, e, way_is N b cost v u h r, (least_new N (way N b cost v) u (rw (← i) n)).0)
       go (yes r) (no n) = omega (arith, i, e, way_is N b cost v u h r, (least_old N (way N b cost v) u (omega (arith, i))).0)
       go (no r) n =
@@ -133,14 +133,6 @@ row_first N b cost time long h =
       long = length-set time b 0 ∙ long;
       times = λ v k l. let e : v ≡ b = omega arith in rw e (get_or-set_same time b 0 0 (omega (arith, long)) ∙ sym (reach_start N b cost));
     }
-
-pub row_next : (N b : ℕ) (cost : Cost) (e : ℕ) (time : List ℕ) (x : ℕ) → Row N b cost e time → e < positions → x ≡ reach N b cost e → Row N b cost (e + 1) (set time e x)
-row_next N b cost e time x row h is =
-    record { long = length-set time e x ∙ row.long; times = λ v k l. at v k l (ℕ_discrete v e) }
-  where
-    at : (v : ℕ) → b ≤ v → v < e + 1 → Dec (v ≡ e) → get_or (set time e x) v 0 ≡ reach N b cost v
-    at v k l (yes p) = rw p (get_or-set_same time e x 0 (omega (arith, row.long)) ∙ is)
-    at v k l (no p) = get_or-set_other time e v x 0 p ∙ row.times v k (omega arith)
 
 -- where the positions end that have a time, with one position more
 module _ (end v q r : ℕ) (at : EndIs q (v + 1) end r) where

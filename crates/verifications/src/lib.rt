@@ -2,7 +2,7 @@
 // copies, the first limit and the walk call these, with a table whose numbers are bounded, so that no product wraps.
 #![tactic(auto)]
 
-ghost use Rattle.std.specs.Prelude.{◌≡◌, ◌+◌, max};
+ghost use Rattle.std.specs.Prelude.{◌≡◌, ◌+◌};
 ghost use Rattle.units.specs.Limits.{none};
 ghost use Rattle.chain.specs.Working.Search.{reach, back};
 ghost use Rattle.table.specs.Working.Table.{arrival_at};
@@ -10,16 +10,7 @@ ghost use Rattle.verifications.specs.Working.Rows.{Row, EndIs, ReadyToArrive, Re
 
 use chain::{Recoveries, stretch_time};
 use table::{entry, first_of};
-use units::{NONE, lesser};
-
-fn later(a: usize, b: usize) -> usize
-    ensures { result ≡ max a b }
-{
-    if a < b {
-        return b;
-    }
-    a
-}
+use units::NONE;
 
 // The time of arrival at v from u, where the time at u is q: none if the stretch is not allowed.
 fn arrival(t: &[u32], r: Recoveries, u: usize, q: u64, v: usize) -> u64
@@ -48,12 +39,9 @@ fn verified(time: &[u64], t: &[u32], r: Recoveries, m: usize, end: usize, v: usi
     requires { ReadyForLeast time.now t.now r m end v }
     ensures { result ≡ reach none m (arrival_at t.now r) v }
 {
-    let r = r;
     let mut best = NONE;
-    let mut u = later(m, first_of(t, v));
-    while u < end {
-        best = lesser(arrival(t, r, u, time[u], v), best);
-        u += 1;
+    for u in m.max(first_of(t, v))..end {
+        best = best.min(arrival(t, r, u, time[u], v));
     }
     best
 }
@@ -63,15 +51,12 @@ pub fn verification_row(time: &mut [u64], t: &[u32], r: Recoveries, m: usize, to
     requires { ReadyForRow time.old t.now r m top }
     ensures { Row none m (arrival_at t.now r) (top + 1) time.new }
 {
-    let r = r;
     time[m] = 0;
     let mut end = m + 1;
-    let mut v = m + 1;
-    while v <= top {
+    for v in m + 1..top + 1 {
         let q = verified(time, t, r, m, end, v);
         time[v] = q;
-        v += 1;
-        end = end_after(q, v, end);
+        end = end_after(q, v + 1, end);
     }
 }
 
@@ -92,13 +77,10 @@ pub fn check_before(time: &[u64], t: &[u32], r: Recoveries, m: usize, v: usize) 
     requires { ReadyToVerify time.now t.now r m v }
     ensures { result ≡ back none m (arrival_at t.now r) v }
 {
-    let r = r;
     let mut best = [NONE; 1];
     let mut from = [0usize; 1];
-    let mut u = m;
-    while u < v {
+    for u in m..v {
         offer(&mut best, &mut from, 0, u, arrival(t, r, u, time[u], v));
-        u += 1;
     }
     from[0]
 }

@@ -95,6 +95,7 @@ pub fn plan_marks(t: &[u32], b: &[u64], time: &[u64], backs: &[usize], n: usize)
 {
     let mut marks = [0u8; TASK_LIMIT];
     let mut w = at_disk(t, b, time, backs, n, n);
+    // a `while`, as each step finds where the next one stands
     while 0 < w.v {
         let v = w.v;
         let k = w.k;

@@ -41,7 +41,7 @@ use Rattle.kinds.specs.Kinds.{
 }
 use Rattle.layout.specs.Layout.{layout_conditions}
 use Rattle.sheet.specs.Reading.{section_field, platform_of, weights_of, job_of, reading_of}
-use Rattle.sheet.proofs.Readings.{sheet_goes_on, reading_accepted}
+use Rattle.sheet.proofs.Readings.{sheet_goes_on, reading_given}
 use Rattle.writing.specs.Form.{lengths, form_of, form_one, platform_start, weights_start, platform_fields, platform_section, weights_section}
 use Rattle.writing.specs.Working.Starts.{start_in}
 use Rattle.writing.proofs.Sheets as sheets
@@ -206,4 +206,4 @@ module _ (p : Platform) (w : List ℕ) where
     pub form_reads : first (job_conditions (form_job p w)) ≡ 0 → reading_of (form_one p w) ≡ record { number = Numbers.accepted; job = form_job p w }
     form_reads values =
         let accepted = sym (sheet_goes_on (form_one p w) form_layout) ∙ (ap (λ (job : Job). first (job_conditions job)) form_job_lem ∙ values) in
-        sym (reading_accepted (form_one p w) (form_job p w) (sym accepted) (sym form_job_lem))
+        sym (reading_given (form_one p w) (form_job p w) (sym accepted) (sym form_job_lem))

@@ -46,13 +46,10 @@ fn put_pairs(buffer: &mut [u8], sizes: &[usize])
     ensures { buffer.new ≡ sets buffer.old pairs_start (fields (pairs (pairs_start + pair_length * length sizes.now) sizes.now)) }
 {
     let mut start = PAIRS_START + PAIR_LENGTH * sizes.len();
-    let mut i: usize = 0;
-    while i < sizes.len() {
-        let size = sizes[i];
+    for (i, &size) in sizes.iter().enumerate() {
         let pair = [start as u32, size as u32];
         put_fields(buffer, PAIRS_START + PAIR_LENGTH * i, &pair[..]);
         start += size;
-        i += 1;
     }
 }
 

@@ -1,11 +1,7 @@
 -- `bounding::after_disk` meets its contract. At the end nothing comes after; before it, the least over what lies ahead. Assumes nothing.
-use mathlib.Core.Path.{refl}
 use native.Mathlib.Omega.{arith}
 use Rattle.bounding.proofs.Bounds.{after_ready, since_ready, after_candidate}
 use Rattle.bounding.proofs.after_disk.Goals as goal
-
-pub returns-then-u-n : goal.returns-then-u-n
-returns-then-u-n c = record { range = omega arith; least = λ v h k. omega arith; end = λ _. refl }
 
 pub since-requires : goal.since-requires
 since-requires c =

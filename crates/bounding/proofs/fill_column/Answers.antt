@@ -1,33 +1,10 @@
 use mathlib.Core.Path.{◌≡◌, ◌∙◌, refl}
 use native.Mathlib.Omega.{arith}
 use Prim.Native.Nat.{min, ◌+◌}
-use Rattle.bounding.proofs.Bounds.{column_last, column_next, looked_kept, kept_put, since_ready, after_other, after_here, column_first, after_ready}
+use Rattle.bounding.proofs.Bounds.{column_next, looked_kept, kept_put, since_ready, after_other, after_here, column_first, after_ready}
 use Rattle.table.specs.Working.Table.{cd_start, column}
 use Rattle.bounds.specs.Working.Bounds.{bounds_in}
 use Rattle.bounding.proofs.fill_column.Goals as goal
-
-pub after_disk-own-requires : goal.after_disk-own-requires
-after_disk-own-requires c =
-    let pre = c.requires in
-    pre
-
-pub put_square-requires : goal.put_square-requires
-put_square-requires c =
-    let pre = c.requires in
-    record { long = pre.stage.filled.parts.long; near = pre.start; far = pre.start }
-
-pub column_at-requires : goal.column_at-requires
-column_at-requires c =
-    let pre = c.requires in
-    record { long = omega (arith, pre.bounded.long); few = omega (arith, pre.start, pre.bounded.few) }
-
-pub overflow_add-at_disk : goal.overflow_add-at_disk
-overflow_add-at_disk c =
-    let column-at = c.column_at in
-    let after_disk = c.after_disk-own in
-    let pre = c.requires in
-    let args = c.args in
-    rw column-at.ensures (omega (arith, after_disk.ensures.range, pre.bounded.cd args.u pre.start))
 
 pub loop-d-init : goal.loop-d-init
 loop-d-init c =
@@ -38,7 +15,6 @@ loop-d-init c =
     let kept = kept_put args.n args.b.now args.u args.u after_disk.result (omega arith) pre.start pre.bounded.few in
     rw put-square.ensures
     (record {
-      within = omega arith;
       column = column_first _ _ _ pre.start pre.bounded.few args.b.now _ pre.stage after_disk.ensures;
       looked = looked_kept _ _ _ args.b.now _ kept pre.bounded.few _ _ pre.looked;
       own_is = after_here args.n args.b.now args.u args.u _ (omega arith) pre.start pre.bounded.few pre.stage.filled.parts.long;
@@ -59,25 +35,11 @@ least_after-next-requires c =
     let since = c.since in
     after_ready _ _ _ _ _ _ _ _ (record { bounded = pre.bounded; start = pre.start; stage = loop.invariant.column.stage; looked = loop.invariant.looked }) (omega arith) since.ensures.cap
 
-pub put_square-requires-in-loop-d : goal.put_square-requires-in-loop-d
-put_square-requires-in-loop-d c =
-    let pre = c.requires in
-    let loop = c.loop-d in
-    record { long = loop.invariant.column.stage.filled.parts.long; near = omega (arith, pre.start); far = pre.start }
-
-pub overflow_add-d : goal.overflow_add-d
-overflow_add-d c =
-    let pre = c.requires in
-    omega (arith, pre.start, pre.bounded.few)
-
-pub loop-d-smaller : goal.loop-d-smaller
-loop-d-smaller c = omega arith
-
 pub loop-d-preserved : goal.loop-d-preserved
 loop-d-preserved c =
     let loop-test = c.loop-d-test in
     let loop = c.loop-d in
-    let lesser = c.lesser in
+    let lesser = c.min in
     let args = c.args in
     let least-after = c.least_after-next in
     let column-at = c.column_at in
@@ -87,27 +49,13 @@ loop-d-preserved c =
     let own = loop.invariant.own_is in
     let x : lesser.result ≡ min (column cd_start args.t.now args.u + (bounds_in args.n loop.b).after args.u args.u) least-after.result = lesser.ensures ∙ rw (column-at.ensures, own) in
     let least = rw (since.ensures.value args.n) at least-after.ensures in
-    let kept = kept_put args.n loop.b loop.d args.u lesser.result loop.invariant.within pre.start pre.bounded.few in
+    let kept = kept_put args.n loop.b loop.d args.u lesser.result (omega arith) pre.start pre.bounded.few in
     let column-is =
     rw (← x) at (column_next _ _ _ pre.start pre.bounded.few args.ahead.now loop.b args.end loop.d least-after.result loop-test.true loop.invariant.column loop.invariant.looked least) in
     rw put-square2.ensures
     (record {
-      within = omega (arith, loop-test.true);
       column = column-is;
       looked = looked_kept _ _ _ loop.b _ kept pre.bounded.few _ _ loop.invariant.looked;
-      own_is = after_other args.n loop.b loop.d args.u _ loop.invariant.within pre.start pre.bounded.few args.u (λ e. omega (arith, loop-test.true)) ∙ own;
+      own_is = after_other args.n loop.b loop.d args.u _ (omega arith) pre.start pre.bounded.few args.u (λ e. omega (arith, loop-test.true)) ∙ own;
       same_long = kept.long ∙ loop.invariant.same_long;
     })
-
-pub shape_of-b : goal.shape_of-b
-shape_of-b c =
-    let loop = c.loop-d in
-    let put-square = c.put_square in
-    let b = c.b-1 in
-    loop.invariant.same_long ∙ b.given
-
-pub returns : goal.returns
-returns c =
-    let pre = c.requires in
-    let loop = c.loop-d in
-    column_last _ _ _ pre.start pre.bounded.few _ _ (omega arith) loop.invariant.column

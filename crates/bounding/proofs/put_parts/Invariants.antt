@@ -1,16 +1,6 @@
--- `bounding::put_parts` meets its contract. The loop's invariant: the entries before v have their part. The measure is what is left of the positions. Assumes nothing.
-use Prim.Native.Nat.{ℕ, ◌+◌, ◌-◌, ◌≤◌, ◌<◌}
-use mathlib.Core.List.{List}
+-- `bounding::put_parts` meets its contract. The loop's invariant: the entries before v have their part. Assumes nothing.
 use Rattle.bounding.specs.Working.Stages.{PutParts}
 use Rattle.bounding.proofs.put_parts.Given as goal
 
-pub record Parts-to (b₀ q : List ℕ) (m n : ℕ) (b : List ℕ) (v : ℕ) : Type 0 where
-  pub after_m : m < v
-  pub within : v ≤ n + 1
-  pub put : PutParts n b₀ q m v b
-
 abbrev pub invariant-loop-v : goal.invariant-loop-v
-invariant-loop-v l = Parts-to l.initial.b l.q l.m l.n l.b l.v
-
-abbrev pub decreases-loop-v : goal.decreases-loop-v
-decreases-loop-v l = (l.n + 1) - l.v
+invariant-loop-v l = PutParts l.n l.initial.b l.q l.m l.v l.b

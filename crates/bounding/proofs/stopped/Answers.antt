@@ -2,7 +2,6 @@
 use mathlib.Core.Path.{◌∙◌, ap}
 use mathlib.Core.Logic.{◌≢◌}
 use native.Mathlib.Omega.{arith}
-use Rattle.chain.specs.Working.Factors.{Factored}
 use Rattle.chain.specs.declared.Factors.{Factors}
 use Rattle.table.specs.Working.Table.{entry_of}
 use Rattle.bounding.proofs.Bounds.{stopped_none, stopped_some}
@@ -13,16 +12,6 @@ returns-then-f-eq0 c =
     let entry = c.entry-f in
     let if1 = c.if-f-eq0 in
     stopped_none _ _ _ _ entry.ensures if1.true
-
-pub overflow_sub-result : goal.overflow_sub-result
-overflow_sub-result c =
-    let args = c.args in
-    let if1 = c.if-f-eq0 in
-    let entry = c.entry-f in
-    let pre = c.requires in
-    let some : (entry_of args.t.now args.u args.v).both ≢ 0 = λ z. if1.false (ap (λ (f : Factors). f.both) entry.ensures ∙ z) in
-    let factored : Factored entry.result = rw entry.ensures (pre.bounded.factored _ _ pre.order (omega arith) some) in
-    omega (arith, factored.silent, factored.both)
 
 pub returns : goal.returns
 returns c =

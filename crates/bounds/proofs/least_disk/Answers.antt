@@ -10,14 +10,14 @@ pub overflow_add-result : goal.overflow_add-result
 unfolding bounds_in
 overflow_add-result c =
     let column-at = c.column_at in
-    let excess = c.excess in
+    let saturating-sub = c.saturating_sub in
     let pre = c.requires in
-    rw (column-at.ensures, excess.ensures) (omega (arith, pre.recovery, pre.time))
+    rw (column-at.ensures, saturating-sub.ensures) (omega (arith, pre.recovery, pre.time))
 
 pub returns : goal.returns
 unfolding disk_in least_disk apart_in bounds_in
 returns c =
     let column-at = c.column_at in
-    let excess = c.excess in
+    let saturating-sub = c.saturating_sub in
     let pre = c.requires in
-    rw (column-at.ensures, excess.ensures) (record { value = λ n. refl; cap = omega (arith, pre.recovery, pre.time) })
+    rw (column-at.ensures, saturating-sub.ensures) (record { value = λ n. refl; cap = omega (arith, pre.recovery, pre.time) })

@@ -1,34 +1,15 @@
-use Prim.Native.Nat.{ℕ}
-use mathlib.Core.Path.{sym, ◌∙◌}
 use native.Mathlib.Omega.{arith}
-use lib.ListN.{length-replicate}
-use Rattle.units.specs.Limits.{none}
 use Rattle.chain.specs.Working.Search.{least_m}
-use Rattle.units.specs.Limits.{positions}
 use Rattle.copies.proofs.Copies.{copy_reached, copies_offered, copies_passed}
 use Rattle.table.proofs.Table.{bounded_less}
 use Rattle.copies.proofs.Offers.{turn_first, turn_last}
 use Rattle.copies.proofs.memory_row.Goals as goal
 use Rattle.copies.proofs.memory_row.Goals.{then-m-last, else-m-last}
 
-pub offset_bounds-time-d : goal.offset_bounds-time-d
-offset_bounds-time-d c =
-    let pre = c.requires in
-    omega (arith, pre.start, pre.bounded.few)
-
-pub bounds-time-d : goal.bounds-time-d
-bounds-time-d c =
-    let pre = c.requires in
-    rw (pre.fresh.times, length-replicate) (omega (arith, pre.start, pre.bounded.few))
-
 pub loop-m-init : goal.loop-m-init
 loop-m-init c =
     let pre = c.requires in
-    record {
-      from = omega arith;
-      to = pre.start;
-      turn = turn_first _ _ _ _ _ (copy_reached _ _ _ _ _ _ pre.bounding pre.room) pre.start pre.bounded.few _ _ pre.fresh.times pre.fresh.positions_before;
-    }
+    turn_first _ _ _ _ _ (copy_reached _ _ _ _ _ _ pre.bounding pre.room) pre.start pre.bounded.few _ _ pre.fresh.times pre.fresh.positions_before
 
 pub far-last-requires : goal.far-last-requires
 unfolding least_m
@@ -36,13 +17,13 @@ far-last-requires c =
     let loop = c.loop-m in
     let pre = c.requires in
     record {
-      long = loop.invariant.turn.times_long;
+      long = loop.invariant.times_long;
       bounded = pre.bounded;
       bounding = pre.bounding;
-      disk = loop.invariant.from;
-      start = loop.invariant.to;
-      capped = loop.invariant.turn.capped;
-      not_low = loop.invariant.turn.not_low _ loop.invariant.to;
+      disk = omega arith;
+      start = omega arith;
+      capped = loop.invariant.capped;
+      not_low = loop.invariant.not_low _ (omega arith);
     }
 
 pub offer_memory-requires : goal.offer_memory-requires
@@ -52,58 +33,29 @@ offer_memory-requires c =
     let pre = c.requires in
     let if1 = c.if-m-last in
     record {
-      rows = record { times_long = loop.invariant.turn.times_long; backs_long = loop.invariant.turn.backs_long };
+      rows = record { times_long = loop.invariant.times_long; backs_long = loop.invariant.backs_long };
       bounded = bounded_less _ _ _ far.ensures.to pre.bounded;
-      disk = loop.invariant.from;
+      disk = omega arith;
       start = far.ensures.from;
       reached = far.ensures.reached if1.true;
     }
-
-pub overflow_add-m : goal.overflow_add-m
-overflow_add-m c =
-    let pre = c.requires in
-    omega (arith, pre.bounded.few)
-
-pub loop-m-smaller : goal.loop-m-smaller
-loop-m-smaller c = omega arith
 
 pub loop-m-preserved : goal.loop-m-preserved
 loop-m-preserved c =
     let pre = c.requires in
     let loop = c.loop-m in
     let far = c.far-last in
-    let if1 = c.if-m-last in
     elim c.if-m-last.branch [
-      | then-m-last w ↦ record {
-        from = omega (arith, loop.invariant.from);
-        to = omega arith;
-        turn =
-            rw (w.time-is, w.backs-is)
-            (copies_offered _ _ _ _ _ _ pre.bounding pre.room _ _ _ loop.invariant.turn loop.invariant.from (omega arith) _ far.ensures w.if-m-last.true _ _ w.offer_memory.ensures);
-      }
-      | else-m-last w ↦ record {
-        from = omega (arith, loop.invariant.from);
-        to = omega arith;
-        turn =
-            rw (w.time-is, w.backs-is)
-            (copies_passed _ _ _ _ _ _ pre.bounding pre.room _ _ _ loop.invariant.turn loop.invariant.from (omega arith) _ far.ensures w.if-m-last.false);
-      }
+      | then-m-last w ↦
+        rw (w.time-is, w.backs-is)
+        (copies_offered _ _ _ _ _ _ pre.bounding pre.room _ _ _ loop.invariant (omega arith) (omega arith) _ far.ensures w.if-m-last.true _ _ w.offer_memory.ensures)
+      | else-m-last w ↦
+        rw (w.time-is, w.backs-is)
+        (copies_passed _ _ _ _ _ _ pre.bounding pre.room _ _ _ loop.invariant (omega arith) (omega arith) _ far.ensures w.if-m-last.false)
     ]
-
-pub shape_of-time : goal.shape_of-time
-shape_of-time c =
-    let loop = c.loop-m in
-    let pre = c.requires in
-    loop.invariant.turn.times_long ∙ rw pre.fresh.times (sym (length-replicate positions none))
-
-pub shape_of-backs : goal.shape_of-backs
-shape_of-backs c =
-    let loop = c.loop-m in
-    let pre = c.requires in
-    loop.invariant.turn.backs_long ∙ rw pre.fresh.positions_before (sym (length-replicate {A = ℕ} positions 0))
 
 pub returns : goal.returns
 returns c =
     let pre = c.requires in
     let loop = c.loop-m in
-    turn_last _ _ _ _ _ (copy_reached _ _ _ _ _ _ pre.bounding pre.room) _ _ _ loop.invariant.turn (omega arith)
+    turn_last _ _ _ _ _ (copy_reached _ _ _ _ _ _ pre.bounding pre.room) _ _ _ loop.invariant (omega arith)

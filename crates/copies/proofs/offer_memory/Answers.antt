@@ -7,18 +7,6 @@ use Rattle.table.proofs.Table.{length_column}
 use Rattle.copies.proofs.Copies.{table_row, memory_arrival, offered_agree}
 use Rattle.copies.proofs.offer_memory.Goals as goal
 
-pub recoveries-r-requires : goal.recoveries-r-requires
-recoveries-r-requires c =
-    let pre = c.requires in
-    record {
-      long = omega (arith, pre.bounded.long);
-      d_few = omega (arith, pre.disk, pre.start, pre.bounded.few);
-      m_few = omega (arith, pre.start, pre.bounded.few);
-      rd = pre.bounded.rd _ (omega (arith, pre.disk, pre.start));
-      rm = pre.bounded.rm _ pre.start;
-      time = omega (arith, pre.reached);
-    }
-
 pub offer_copies-requires : goal.offer_copies-requires
 offer_copies-requires c =
     let pre = c.requires in

@@ -10,7 +10,7 @@ returns-then-least-ge-NONE c =
     let pre = c.requires in
     let e-disk = c.e_disk-least in
     let if1 = c.if-least-ge-NONE in
-    rw c.refused.ensures (slow_answer _ (S_rises _) _ pre.sound.some_task _ (omega (arith, if1.true, e-disk.ensures.value)))
+    slow_answer _ (S_rises _) _ pre.sound.some_task _ (omega (arith, if1.true, e-disk.ensures.value))
 
 pub returns : goal.returns
 returns c =
@@ -19,5 +19,4 @@ returns c =
     let if1 = c.if-least-ge-NONE in
     let plan-marks = c.plan_marks-marks in
     let copy-marks = c.copy_marks in
-    rw c.accepted.ensures
-    (plan_answer _ (S_rises _) _ pre.sound.some_task _ _ _ _ pre.room plan-marks.ensures copy-marks.ensures e-disk.ensures.value if1.false)
+    plan_answer _ (S_rises _) _ pre.sound.some_task _ _ _ _ pre.room plan-marks.ensures copy-marks.ensures e-disk.ensures.value if1.false

@@ -32,14 +32,6 @@ cd_at-requires t c =
 pub overflow_add-time-in-loop-d1 : goal.overflow_add-time-in-loop-d1
 overflow_add-time-in-loop-d1 t c = omega (arith, c.e_disk.ensures.cap, c.e_mem.ensures.cap, c.cd_at.ensures.fits)
 
-pub overflow_add-d1 : goal.overflow_add-d1
-overflow_add-d1 t c =
-    let pre = c.requires in
-    omega (arith, pre.end, pre.sound.few_tasks)
-
-pub loop-d1-smaller : goal.loop-d1-smaller
-loop-d1-smaller t c = omega arith
-
 pub loop-d1-preserved : goal.loop-d1-preserved
 unfolding chain_of
 loop-d1-preserved t c =

@@ -208,14 +208,6 @@ e_verif-e-requires t c =
 pub e_verif-overflow_add-time : goal.e_verif-overflow_add-time
 e_verif-overflow_add-time t c = omega (arith, c.e_verif.ensures.cap, c.e.ensures.cap)
 
-pub e_verif-overflow_add-v1 : goal.e_verif-overflow_add-v1
-e_verif-overflow_add-v1 t c =
-    let pre = c.requires in
-    omega (arith, pre.end, pre.sound.few_tasks)
-
-pub e_verif-loop-v1-smaller : goal.e_verif-loop-v1-smaller
-e_verif-loop-v1-smaller t c = omega arith
-
 pub e_verif-loop-v1-preserved : goal.e_verif-loop-v1-preserved
 e_verif-loop-v1-preserved t c =
     let loop = c.loop-v1 in

@@ -1,6 +1,6 @@
 -- The cycle of `equations::e` and `equations::e_verif`. The end position falls at each call of E_verif: the measure is 2 v_2 for E and 2 v_2 + 1 for
 -- E_verif. The loop's invariant: the least time over the v_1 offered so far, and the earliest that gives it. Assumes nothing.
-use Prim.Native.Nat.{◌+◌, ◌-◌, ◌*◌}
+use Prim.Native.Nat.{◌+◌, ◌*◌}
 use Rattle.units.specs.Limits.{none}
 use Rattle.costs.specs.Stretch.{chain_of}
 use Rattle.equations.specs.Equations.{by_verification}
@@ -15,6 +15,3 @@ decreases-e_verif l = 2 * l.v2 + 1
 
 abbrev pub invariant-e_verif-loop-v1 : goal.invariant-e_verif-loop-v1
 invariant-e_verif-loop-v1 l = Offered none l.m1 l.v2 l.v1 (by_verification (chain_of l.job) none l.d1 l.m1 l.mem l.v2) l.least
-
-abbrev pub decreases-e_verif-loop-v1 : goal.decreases-e_verif-loop-v1
-decreases-e_verif-loop-v1 l = l.v2 - l.v1

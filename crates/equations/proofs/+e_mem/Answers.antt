@@ -40,14 +40,6 @@ cm_at-requires t c =
 pub overflow_add-time-in-loop-m1 : goal.overflow_add-time-in-loop-m1
 overflow_add-time-in-loop-m1 t c = omega (arith, c.e_mem-mem.ensures.cap, c.e_verif.ensures.cap, c.cm_at.ensures.fits)
 
-pub overflow_add-m1 : goal.overflow_add-m1
-overflow_add-m1 t c =
-    let pre = c.requires in
-    omega (arith, pre.end, pre.sound.few_tasks)
-
-pub loop-m1-smaller : goal.loop-m1-smaller
-loop-m1-smaller t c = omega arith
-
 pub loop-m1-preserved : goal.loop-m1-preserved
 unfolding chain_of
 loop-m1-preserved t c =

@@ -1,43 +1,23 @@
-use Prim.Native.Nat.{◌-◌}
-use mathlib.Core.Path.{ap}
+-- `extents::is_contiguous` meets its contract. Each section follows on what stands before it. Assumes nothing.
+use mathlib.Core.Path.{◌≡◌, refl}
 use mathlib.Core.Bool.{not}
-use borrow.Author.Tests.{eq-eqb}
-use native.Mathlib.Omega.{arith}
-use Rattle.header.proofs.Loop.{none_start, none_more, none_left}
-use Rattle.extents.specs.Extents.{apart, contiguous}
-use Rattle.extents.proofs.Stray.{not_contiguous}
+use Rattle.std.proofs.Common.{rules, eqb}
+use Rattle.lists.specs.Lists.{some}
+use Rattle.lists.proofs.Ranges.{all_some}
+use Rattle.header.specs.Header.{offset}
+use Rattle.extents.specs.Extents.{end_before, apart, contiguous}
 use Rattle.extents.proofs.is_contiguous.Goals as goal
 
-pub loop-k-init : goal.loop-k-init
-loop-k-init c = none_start _
+pub returns-then-follow : goal.returns-then-follow
+unfolding contiguous apart
+returns-then-follow c =
+    let s = c.args.s.now in
+    let follow : c.all-follow.result ≡ not (some c.section_count-m.result (apart s)) = all_some (λ k. eqb (offset s k) (end_before s k)) _ _ _ _ (λ i b q e. search rules) c.all-follow.ensures.ran in
+    rw (← c.section_count-m.ensures.is, ← follow, c.if-follow.true, ← c.end_before.ensures) refl
 
-pub offset_of-requires : goal.offset_of-requires
-offset_of-requires c = omega arith
-
-pub end_before-requires : goal.end_before-requires
-end_before-requires c = omega arith
-
-pub returns-then-offset_of-end_before : goal.returns-then-offset_of-end_before
-returns-then-offset_of-end_before c =
-    not_contiguous _ c.loop-k.k (omega arith) c.offset_of.ensures.is c.end_before.ensures c.if-offset_of-end_before.true
-
-pub overflow_add-k : goal.overflow_add-k
-overflow_add-k c = omega arith
-
-pub loop-k-smaller : goal.loop-k-smaller
-loop-k-smaller c = omega arith
-
-pub loop-k-preserved : goal.loop-k-preserved
-unfolding apart
-loop-k-preserved c =
-    let same = rw (c.offset_of.ensures.is, c.end_before.ensures) at (eq-eqb _ _ c.if-offset_of-end_before.false) in
-    none_more _ (omega arith) c.loop-k.invariant (ap not same)
-
-pub end_before-end-requires : goal.end_before-end-requires
-end_before-end-requires c = omega arith
-
-pub returns : goal.returns
-unfolding contiguous
-returns c =
-    let none = none_left _ (omega arith) c.loop-k.invariant in
-    rw (← c.section_count-m.ensures.is, none, ← c.end_before-end.ensures)
+pub returns-else-follow : goal.returns-else-follow
+unfolding contiguous apart
+returns-else-follow c =
+    let s = c.args.s.now in
+    let follow : c.all-follow.result ≡ not (some c.section_count-m.result (apart s)) = all_some (λ k. eqb (offset s k) (end_before s k)) _ _ _ _ (λ i b q e. search rules) c.all-follow.ensures.ran in
+    rw (← c.section_count-m.ensures.is, ← follow, c.if-follow.false) refl

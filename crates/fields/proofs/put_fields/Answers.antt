@@ -21,26 +21,12 @@ overflow_add-at c =
     let pre = c.requires in
     omega (arith, pre)
 
-pub offset_bounds-values-j : goal.offset_bounds-values-j
-offset_bounds-values-j c =
-    let pre = c.requires in
-    omega (arith, pre)
-
-pub bounds-values-j : goal.bounds-values-j
-bounds-values-j c = omega arith
-
 pub put_field-requires : goal.put_field-requires
 put_field-requires c =
     let args = c.args in
     let pre = c.requires in
     let loop = c.loop-j in
     rw (loop.invariant.stored, length-sets args.buffer.now args.at (fields (take loop.j args.values.now))) (omega (arith, pre))
-
-pub overflow_add-j : goal.overflow_add-j
-overflow_add-j c = omega arith
-
-pub loop-j-smaller : goal.loop-j-smaller
-loop-j-smaller c = omega arith
 
 pub loop-j-preserved : goal.loop-j-preserved
 loop-j-preserved c =

@@ -1,5 +1,4 @@
--- `fields::put_fields` meets its contract. The loop's invariant: the fields of the values passed are stored. The measure is what is left of the values.
--- Assumes nothing.
+-- `fields::put_fields` meets its contract. The loop's invariant: the fields of the values passed are stored. Assumes nothing.
 use Prim.Native.Nat.{ℕ, ◌-◌, ◌≤◌}
 use mathlib.Core.Path.{◌≡◌}
 use mathlib.Core.List.{List}
@@ -14,6 +13,3 @@ pub record Stored (before : List ℕ) (at : ℕ) (values buffer : List ℕ) (j :
 
 abbrev pub invariant-loop-j : goal.invariant-loop-j
 invariant-loop-j l = Stored l.initial.buffer l.at l.values l.buffer l.j
-
-abbrev pub decreases-loop-j : goal.decreases-loop-j
-decreases-loop-j l = length l.values - l.j

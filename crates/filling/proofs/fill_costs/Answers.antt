@@ -1,19 +1,8 @@
-use Rattle.filling.proofs.Fills.{table_first, table_more}
-use mathlib.Core.Path.{refl, ◌≡◌, ◌∙◌}
-use Prim.Native.Nat.{◌+◌, ◌-◌}
+use Rattle.filling.proofs.Fills.{table_more}
+use mathlib.Core.Path.{◌∙◌}
 use native.Mathlib.Omega.{arith}
 use Rattle.costs.proofs.Ranges.{rm_energy, rd_energy, cm_energy, cd_energy}
 use Rattle.filling.proofs.fill_costs.Goals as goal
-
-pub loop-v-init : goal.loop-v-init
-loop-v-init c =
-    let pre = c.requires in
-    record { within = omega arith; table = table_first _ _ _ pre.filled; same_long = refl }
-
-pub cm_at-requires : goal.cm_at-requires
-cm_at-requires c =
-    let pre = c.requires in
-    omega (arith, pre.sound.few_tasks)
 
 pub overflow_mul-cm : goal.overflow_mul-cm
 overflow_mul-cm c =
@@ -22,11 +11,6 @@ overflow_mul-cm c =
     let cm-at = c.cm_at in
     record { fits = rw cm-at.ensures.value (omega (arith, cm_energy _ _ pre.products loop.v)) }
 
-pub cd_at-requires : goal.cd_at-requires
-cd_at-requires c =
-    let pre = c.requires in
-    omega (arith, pre.sound.few_tasks)
-
 pub overflow_mul-cd : goal.overflow_mul-cd
 overflow_mul-cd c =
     let pre = c.requires in
@@ -34,22 +18,12 @@ overflow_mul-cd c =
     let cd-at = c.cd_at in
     record { fits = rw cd-at.ensures.value (omega (arith, cd_energy _ _ pre.products loop.v)) }
 
-pub rd_at-requires : goal.rd_at-requires
-rd_at-requires c =
-    let pre = c.requires in
-    omega (arith, pre.sound.few_tasks)
-
 pub overflow_mul-rd : goal.overflow_mul-rd
 overflow_mul-rd c =
     let pre = c.requires in
     let loop = c.loop-v in
     let rd-at = c.rd_at in
     record { fits = rw rd-at.ensures.value (omega (arith, rd_energy _ _ pre.products loop.v)) }
-
-pub rm_at-requires : goal.rm_at-requires
-rm_at-requires c =
-    let pre = c.requires in
-    omega (arith, pre.sound.few_tasks)
 
 pub overflow_mul-rm : goal.overflow_mul-rm
 overflow_mul-rm c =
@@ -104,14 +78,6 @@ put_in_column-requires-in-loop-v-3 c =
       range = rw rm-at.ensures.value (omega (arith, rm_energy _ _ pre.products loop.v));
     }
 
-pub overflow_add-v : goal.overflow_add-v
-overflow_add-v c =
-    let pre = c.requires in
-    omega (arith, pre.sound.few_tasks)
-
-pub loop-v-smaller : goal.loop-v-smaller
-loop-v-smaller c = omega arith
-
 pub loop-v-preserved : goal.loop-v-preserved
 loop-v-preserved c =
     let loop-test = c.loop-v-test in
@@ -132,7 +98,6 @@ loop-v-preserved c =
     let t = c.t-1 in
     let table = table_more args.powers args.job loop.v loop.t loop.invariant.table (omega (arith, pre.sound.few_tasks)) (omega (arith, loop-test.true)) in
     record {
-      within = omega (arith, loop-test.true);
       table =
           rw (
             put-in-column4.ensures,
@@ -147,14 +112,3 @@ loop-v-preserved c =
           table;
       same_long = t4.given ∙ t3.given ∙ t2.given ∙ t.given ∙ loop.invariant.same_long;
     }
-
-pub shape_of-t : goal.shape_of-t
-shape_of-t c =
-    let loop = c.loop-v in
-    loop.invariant.same_long
-
-pub returns : goal.returns
-returns c =
-    let loop = c.loop-v in
-    let args = c.args in
-    let e : loop.v ≡ args.job.tasks + 1 = omega (arith, loop.invariant.within) in rw e at loop.invariant.table

@@ -1,4 +1,4 @@
-use Prim.Native.Nat.{ℕ, ◌+◌, ◌-◌, ◌≤◌}
+use Prim.Native.Nat.{ℕ, ◌+◌, ◌-◌, ◌≤◌, ◌<◌}
 use mathlib.Core.Path.{◌≡◌, ◌∙◌, refl}
 use mathlib.Core.List.{List}
 use native.Mathlib.Nat.{le_trans}
@@ -9,61 +9,33 @@ use Rattle.costs.specs.declared.Powers.{Powers}
 use Rattle.table.proofs.Pairs.{needed_less}
 use Rattle.filling.specs.Weight.{weight_after}
 use Rattle.filling.specs.Working.Fill.{ReadyToFill}
-use Rattle.filling.proofs.Fills.{Weighed, weighed_more, weighed_ready, weighed_factors, factors_packable, pairs_none, pairs_more, pairs_next}
+use Rattle.filling.proofs.Fills.{Weighed, weighed_more, weighed_ready, weighed_factors, factors_packable, pairs_more}
 use Rattle.filling.proofs.fill_pairs.Invariants.{Pairs-to}
 use Rattle.filling.proofs.fill_pairs.Goals as goal
 
 -- the weight at hand and that of the task which ends at v
-weighed_here : {t₀ t₁ t : List ℕ} {powers : Powers} {job : Job} {u weight v : ℕ} → ReadyToFill powers job t₁ → Pairs-to t₀ powers job u t weight v
+weighed_here : {t₀ t₁ t : List ℕ} {powers : Powers} {job : Job} {u weight v : ℕ} → ReadyToFill powers job t₁ → Pairs-to t₀ powers job u t weight v → u < v
     → v ≤ job.tasks → Weighed powers job u v (weight + weight_at job.weights (v - 1))
-weighed_here ready far within = weighed_more _ _ ready.sound ready.products _ _ _ far.order within far.running
-
-pub loop-u-init : goal.loop-u-init
-loop-u-init c =
-    let pre = c.requires in
-    record { within = omega arith; pairs = pairs_none _ _ _ pre.long; same_long = refl }
-
-pub overflow_add-v : goal.overflow_add-v
-overflow_add-v c =
-    let pre = c.requires in
-    omega (arith, pre.sound.few_tasks)
+weighed_here ready far order within = weighed_more _ _ ready.sound ready.products _ _ _ order within far.running
 
 pub loop-v-init : goal.loop-v-init
 unfolding weight_after
 loop-v-init c =
     let loop = c.loop-u in
     let none : loop.u + 1 - 1 - loop.u ≡ 0 = omega arith in
-    record { order = omega arith; within = omega arith; running = rw none; pairs = loop.invariant.pairs; same_long = refl }
-
-pub overflow_sub-weight : goal.overflow_sub-weight
-overflow_sub-weight c = omega (arith, c.loop-v.invariant.order)
-
-pub offset_bounds-weights-v : goal.offset_bounds-weights-v
-offset_bounds-weights-v c =
-    let pre = c.requires in
-    omega (arith, pre.sound.few_tasks)
-
-pub bounds-weights-v : goal.bounds-weights-v
-bounds-weights-v c =
-    let pre = c.requires in
-    omega (arith, pre.sound.few_tasks, c.loop-v.invariant.order)
+    record { running = rw none; pairs = loop.invariant.pairs; same_long = refl }
 
 pub overflow_add-weight : goal.overflow_add-weight
 overflow_add-weight c =
     let loop2 = c.loop-v in
-    let weighed = weighed_here c.requires loop2.invariant (omega arith) in
+    let weighed = weighed_here c.requires loop2.invariant (omega arith) (omega arith) in
     omega (arith, weighed.between_ends, weighed.ready)
-
-pub v_at-requires : goal.v_at-requires
-v_at-requires c =
-    let pre = c.requires in
-    omega (arith, pre.sound.few_tasks)
 
 pub factors_if_allowed-f-requires : goal.factors_if_allowed-f-requires
 factors_if_allowed-f-requires c =
     let v-at = c.v_at in
     let loop2 = c.loop-v in
-    let weighed = weighed_here c.requires loop2.invariant (omega arith) in
+    let weighed = weighed_here c.requires loop2.invariant (omega arith) (omega arith) in
     weighed_ready _ _ _ _ _ _ weighed v-at.ensures.value
 
 pub put_pair-requires : goal.put_pair-requires
@@ -74,18 +46,10 @@ put_pair-requires c =
     record {
       fits = record {
         long = le_trans (needed_less _ _ (omega arith)) loop2.invariant.pairs.long;
-        pair = record { order = loop2.invariant.order; few = omega (arith, pre.sound.few_tasks) };
+        pair = record { order = omega arith; few = omega (arith, pre.sound.few_tasks) };
       };
       packable = factors_packable _ _ _ _ _ factors-if-allowed.ensures;
     }
-
-pub overflow_add-v-in-loop-v : goal.overflow_add-v-in-loop-v
-overflow_add-v-in-loop-v c =
-    let pre = c.requires in
-    omega (arith, pre.sound.few_tasks)
-
-pub loop-v-smaller : goal.loop-v-smaller
-loop-v-smaller c = omega arith
 
 pub loop-v-preserved : goal.loop-v-preserved
 loop-v-preserved c =
@@ -94,44 +58,11 @@ loop-v-preserved c =
     let factors-if-allowed = c.factors_if_allowed-f in
     let put-pair = c.put_pair in
     let t = c.t-1 in
-    let weighed = weighed_here c.requires loop2.invariant (omega arith) in
+    let weighed = weighed_here c.requires loop2.invariant (omega arith) (omega arith) in
     let factors = weighed_factors _ _ _ _ _ _ weighed v-at.ensures.value _ factors-if-allowed.ensures in
     let next : loop2.v + 1 - 1 ≡ loop2.v = omega arith in
     record {
-      order = omega (arith, loop2.invariant.order);
-      within = omega arith;
       running = rw next weighed.sum;
-      pairs = rw put-pair.ensures (pairs_more _ _ _ _ _ loop2.invariant.pairs loop2.invariant.order (omega arith) (omega (arith, c.requires.sound.few_tasks)) _ factors);
+      pairs = rw put-pair.ensures (pairs_more _ _ _ _ _ loop2.invariant.pairs (omega arith) (omega arith) (omega (arith, c.requires.sound.few_tasks)) _ factors);
       same_long = t.given ∙ loop2.invariant.same_long;
     }
-
-pub overflow_add-u : goal.overflow_add-u
-overflow_add-u c =
-    let pre = c.requires in
-    omega (arith, pre.sound.few_tasks)
-
-pub loop-u-smaller : goal.loop-u-smaller
-loop-u-smaller c = omega arith
-
-pub loop-u-preserved : goal.loop-u-preserved
-loop-u-preserved c =
-    let loop2 = c.loop-v in
-    let loop = c.loop-u in
-    let next : loop.u + 1 + 1 ≡ loop.u + 2 = omega arith in
-    record {
-      within = omega arith;
-      pairs = rw next (pairs_next _ _ _ _ _ loop2.invariant.pairs (omega arith));
-      same_long = loop2.invariant.same_long ∙ loop.invariant.same_long;
-    }
-
-pub shape_of-t : goal.shape_of-t
-shape_of-t c =
-    let loop = c.loop-u in
-    loop.invariant.same_long
-
-pub returns : goal.returns
-returns c =
-    let loop = c.loop-u in
-    let args = c.args in
-    let e : loop.u ≡ args.job.tasks = omega (arith, loop.invariant.within) in
-    rw e at loop.invariant.pairs

@@ -11,11 +11,6 @@ returns-then-time-n c =
     let if1 = c.if-time-n in
     found_within _ _ _ _ pre.bounds.ends first-limit.ensures _ _ disks-within.ensures if1.true
 
-pub overflow_add-limit : goal.overflow_add-limit
-overflow_add-limit c =
-    let first-limit = c.first_limit-limit in
-    omega (arith, first-limit.ensures)
-
 pub returns-then-limit-ge-NONE : goal.returns-then-limit-ge-NONE
 returns-then-limit-ge-NONE c =
     let pre = c.requires in

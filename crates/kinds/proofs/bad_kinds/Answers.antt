@@ -1,10 +1,10 @@
-use Prim.Native.Nat.{◌-◌}
-use mathlib.Core.Path.{sym, ◌∙◌}
-use native.Mathlib.Omega.{arith}
-use borrow.Author.Tests.{not-true, not-false}
-use Rattle.header.proofs.Loop.{none_start, none_more, none_left}
+-- `kinds::bad_kinds` meets its contract. One of each kind, then the lengths. Assumes nothing.
+use mathlib.Core.Path.{◌≡◌}
+use mathlib.Core.Bool.{or-true}
+use Rattle.std.proofs.Common.{rules}
+use Rattle.lists.specs.Lists.{some}
+use Rattle.lists.proofs.Ranges.{any_some}
 use Rattle.kinds.specs.Kinds.{wrong_length, bad_kinds}
-use Rattle.kinds.proofs.Lengths.{wrong_is_bad}
 use Rattle.kinds.proofs.bad_kinds.Goals as goal
 
 pub returns-then-not-is_one_of_each : goal.returns-then-not-is_one_of_each
@@ -13,35 +13,9 @@ returns-then-not-is_one_of_each c =
     let is-one-of-each = c.is_one_of_each in
     rw (← is-one-of-each.ensures, c.if-not-is_one_of_each.true)
 
-pub loop-i-init : goal.loop-i-init
-loop-i-init c = none_start _
-
-pub wrong_length-requires : goal.wrong_length-requires
-wrong_length-requires c = omega arith
-
-pub returns-then-wrong_length : goal.returns-then-wrong_length
-returns-then-wrong_length c =
-    let wrong-length = c.wrong_length in
-    wrong_is_bad _ c.loop-i.i (omega arith) (sym wrong-length.ensures ∙ c.if-wrong_length.true)
-
-pub overflow_add-i : goal.overflow_add-i
-overflow_add-i c = omega arith
-
-pub loop-i-smaller : goal.loop-i-smaller
-loop-i-smaller c = omega arith
-
-pub loop-i-preserved : goal.loop-i-preserved
-loop-i-preserved c =
-    let wrong-length = c.wrong_length in
-    none_more _ (omega arith) c.loop-i.invariant (sym wrong-length.ensures ∙ c.if-wrong_length.false)
-
 pub returns : goal.returns
 unfolding bad_kinds
 returns c =
     let is-one-of-each = c.is_one_of_each in
-    rw (
-      ← is-one-of-each.ensures,
-      c.if-not-is_one_of_each.false,
-      ← c.section_count-m.ensures.is,
-      none_left _ (omega arith) c.loop-i.invariant,
-    )
+    let wrong : c.any.result ≡ some c.section_count.result (wrong_length c.args.s.now) = any_some (wrong_length c.args.s.now) _ _ _ _ (λ i b q e. search rules) c.any.ensures.ran in
+    rw (← is-one-of-each.ensures, c.if-not-is_one_of_each.false, ← c.section_count.ensures.is) wrong

@@ -11,18 +11,6 @@ pub loop-j-init : goal.loop-j-init
 unfolding counted
 loop-j-init c = record { within = omega arith; count = refl; few = omega arith }
 
-pub kind_of-requires : goal.kind_of-requires
-kind_of-requires c = omega arith
-
-pub overflow_add-n : goal.overflow_add-n
-overflow_add-n c = omega arith
-
-pub overflow_add-j : goal.overflow_add-j
-overflow_add-j c = omega arith
-
-pub loop-j-smaller : goal.loop-j-smaller
-loop-j-smaller c = omega arith
-
 pub loop-j-preserved : goal.loop-j-preserved
 loop-j-preserved c =
     let kind-of = c.kind_of in

@@ -11,7 +11,4 @@ pub record Counting (s : List ℕ) (k m n j : ℕ) : Type 0 where
   pub few : n ≤ j
 
 abbrev pub invariant-loop-j : goal.invariant-loop-j
-invariant-loop-j l = Counting l.s l.k l.m l.n l.j
-
-abbrev pub decreases-loop-j : goal.decreases-loop-j
-decreases-loop-j l = l.m - l.j
+invariant-loop-j l = Counting l.s l.k l.j-end l.n l.j

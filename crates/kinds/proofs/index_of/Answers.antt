@@ -1,4 +1,4 @@
-use Prim.Native.Nat.{suc, ◌-◌}
+use Prim.Native.Nat.{ℕ, suc, ◌-◌}
 use mathlib.Core.Path.{◌≡◌, sym, ◌∙◌}
 use native.Mathlib.Omega.{arith}
 use Rattle.header.specs.Header.{sections}
@@ -12,23 +12,11 @@ use Rattle.kinds.proofs.index_of.Goals as goal
 pub loop-i-init : goal.loop-i-init
 loop-i-init c = none_start _
 
-pub overflow_add-i : goal.overflow_add-i
-overflow_add-i c = omega arith
-
-pub kind_of-requires : goal.kind_of-requires
-kind_of-requires c = omega arith
-
 pub returns-then-kind_of-k : goal.returns-then-kind_of-k
 unfolding index_of
 returns-then-kind_of-k c =
     let is-kind = sym c.kind_of.ensures ∙ c.if-kind_of-k.true in
     record { is = sym (index_first _ _ c.loop-i.i _ (omega arith) c.loop-i.invariant.none is-kind); range = omega arith }
-
-pub overflow_add-i-in-loop-i : goal.overflow_add-i-in-loop-i
-overflow_add-i-in-loop-i c = omega arith
-
-pub loop-i-smaller : goal.loop-i-smaller
-loop-i-smaller c = omega arith
 
 pub loop-i-preserved : goal.loop-i-preserved
 loop-i-preserved c =
@@ -40,4 +28,8 @@ unfolding index_of
 returns c =
     let s = c.args.s.now in
     let e : sections s ≡ suc c.loop-i.i = omega (arith, two_sections s) in
-    record { is = rw e (sym (index_last _ _ c.loop-i.i c.loop-i.invariant.none)); range = omega arith }
+    let last : c.section_count-last.result - 1 ≡ c.loop-i.i = omega (arith, two_sections s) in
+    record { is = rw (last, e) (sym (index_last _ _ c.loop-i.i c.loop-i.invariant.none)); range = omega arith }
+
+pub overflow_sub-last : goal.overflow_sub-last
+overflow_sub-last c = omega (arith, two_sections c.args.s.now)

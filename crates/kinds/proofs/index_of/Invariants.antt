@@ -1,11 +1,8 @@
--- `kinds::index_of` meets its contract. The loop's invariant: no section passed is of the kind, and one is left. The measure is what is left of them. Assumes nothing.
+-- `kinds::index_of` meets its contract. The loop's invariant: no section passed is of the kind, and one is left. Assumes nothing.
 use Prim.Native.Nat.{◌-◌}
 use Rattle.header.proofs.Loop.{NoneYet}
 use Rattle.kinds.specs.Kinds.{is_kind}
 use Rattle.kinds.proofs.index_of.Given as goal
 
 abbrev pub invariant-loop-i : goal.invariant-loop-i
-invariant-loop-i l = NoneYet (is_kind l.s l.k) (l.m - 1) l.i
-
-abbrev pub decreases-loop-i : goal.decreases-loop-i
-decreases-loop-i l = l.m - l.i
+invariant-loop-i l = NoneYet (is_kind l.s l.k) l.last l.i

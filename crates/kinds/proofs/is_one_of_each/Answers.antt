@@ -1,37 +1,16 @@
-use Prim.Native.Nat.{◌-◌}
-use mathlib.Core.Path.{ap}
+-- `kinds::is_one_of_each` meets its contract. Each kind is counted once. Assumes nothing.
+use mathlib.Core.Path.{◌≡◌}
 use mathlib.Core.Bool.{not}
-use native.Mathlib.Omega.{arith}
-use borrow.Author.Tests.{eq-eqb}
-use Rattle.header.proofs.Loop.{none_start, none_more, none_left}
-use Rattle.kinds.specs.Kinds.{not_one, one_of_each}
-use Rattle.kinds.proofs.Indices.{not_one_of_each}
+use Rattle.std.proofs.Common.{rules, eqb, ◌+◌}
+use Rattle.lists.specs.Lists.{some}
+use Rattle.lists.proofs.Ranges.{all_some}
+use Rattle.header.specs.Header.{sections}
+use Rattle.kinds.specs.Kinds.{counted, not_one, one_of_each}
 use Rattle.kinds.proofs.is_one_of_each.Goals as goal
 
-pub loop-j-init : goal.loop-j-init
-loop-j-init c = none_start _
-
-pub overflow_add-j : goal.overflow_add-j
-overflow_add-j c = omega arith
-
-pub returns-then-count_of-ne1 : goal.returns-then-count_of-ne1
-returns-then-count_of-ne1 c =
-    not_one_of_each _ c.loop-j.j (omega arith) c.count_of.ensures c.if-count_of-ne1.true
-
-pub overflow_add-j-in-loop-j : goal.overflow_add-j-in-loop-j
-overflow_add-j-in-loop-j c = omega arith
-
-pub loop-j-smaller : goal.loop-j-smaller
-loop-j-smaller c = omega arith
-
-pub loop-j-preserved : goal.loop-j-preserved
-unfolding not_one
-loop-j-preserved c =
-    let one = rw c.count_of.ensures at (eq-eqb _ _ c.if-count_of-ne1.false) in
-    none_more _ (omega arith) c.loop-j.invariant (ap not one)
-
 pub returns : goal.returns
-unfolding one_of_each
+unfolding one_of_each not_one
 returns c =
-    let none = none_left _ (omega arith) c.loop-j.invariant in
-    rw (← c.section_count-m.ensures.is, none)
+    let s = c.args.s.now in
+    let each : c.all.result ≡ not (some c.section_count.result (not_one s)) = all_some (λ j. eqb (counted s (j + 1) (sections s)) 1) _ _ _ _ (λ i b q e. search rules) c.all.ensures.ran in
+    rw (← c.section_count.ensures.is) each

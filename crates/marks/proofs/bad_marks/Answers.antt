@@ -31,12 +31,6 @@ returns-then-marks-j-gt-DISK c =
     let loop = c.loop-j in
     rw (some_holds args.n (λ i. ltb disk (get_or args.marks.now i 0)) loop.j (omega arith) (lt-ltb _ _ c.if-marks-j-gt-DISK.true), or-true)
 
-pub overflow_add-j : goal.overflow_add-j
-overflow_add-j c = omega arith
-
-pub loop-j-smaller : goal.loop-j-smaller
-loop-j-smaller c = omega arith
-
 pub loop-j-preserved : goal.loop-j-preserved
 loop-j-preserved c =
     let loop = c.loop-j in

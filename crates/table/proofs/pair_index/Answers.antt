@@ -3,16 +3,6 @@ use native.Mathlib.Omega.{arith}
 use Rattle.table.proofs.Pairs.{pair_within, pair_index_is, far_product}
 use Rattle.table.proofs.pair_index.Goals as goal
 
-pub overflow_mul-result : goal.overflow_mul-result
-overflow_mul-result c =
-    let pre = c.requires in
-    record { fits = omega (arith, far_product _ _ pre) }
-
-pub overflow_add-result : goal.overflow_add-result
-overflow_add-result c =
-    let pre = c.requires in
-    omega (arith, far_product _ _ pre, pre.order, pre.few)
-
 pub returns : goal.returns
 returns c =
     let pre = c.requires in

@@ -1,40 +1,19 @@
-use Prim.Native.Nat.{◌+◌, ◌-◌}
+use Prim.Native.Nat.{◌+◌}
 use mathlib.Core.Path.{◌≡◌}
 use native.Mathlib.Nat.{le_trans}
 use native.Mathlib.Omega.{arith}
 use Rattle.table.proofs.Pairs.{needed_less}
-use Rattle.table.proofs.Table.{firsts_none, firsts_more}
+use Rattle.table.proofs.Table.{firsts_more}
 use Rattle.table.proofs.put_firsts.Goals as goal
-
-pub loop-v-init : goal.loop-v-init
-loop-v-init c = record { within = omega arith; put = firsts_none _ }
 
 pub first_allowed-first-requires : goal.first_allowed-first-requires
 first_allowed-first-requires c =
     let loop = c.loop-v in
     let pre = c.requires in
     record {
-      long = rw loop.invariant.put.long (le_trans (needed_less _ _ (omega arith)) pre.long);
+      long = rw loop.invariant.long (le_trans (needed_less _ _ (omega arith)) pre.long);
       few = omega (arith, pre.few);
     }
-
-pub put_in_column-requires : goal.put_in_column-requires
-put_in_column-requires c =
-    let loop = c.loop-v in
-    let first-allowed = c.first_allowed-first in
-    let pre = c.requires in
-    record {
-      place = record { long = omega (arith, loop.invariant.put.long, pre.long); few = omega (arith, pre.few) };
-      range = omega (arith, first-allowed.ensures.within, pre.few);
-    }
-
-pub overflow_add-v : goal.overflow_add-v
-overflow_add-v c =
-    let pre = c.requires in
-    omega (arith, pre.few)
-
-pub loop-v-smaller : goal.loop-v-smaller
-loop-v-smaller c = omega arith
 
 pub loop-v-preserved : goal.loop-v-preserved
 loop-v-preserved c =
@@ -42,18 +21,4 @@ loop-v-preserved c =
     let first-allowed = c.first_allowed-first in
     let put-in-column = c.put_in_column in
     let pre = c.requires in
-    record {
-      within = omega arith;
-      put = rw put-in-column.ensures (firsts_more _ _ _ _ loop.invariant.put (omega (arith, pre.long)) (omega (arith, pre.few)) first-allowed.ensures);
-    }
-
-pub shape_of-t : goal.shape_of-t
-shape_of-t c =
-    let loop = c.loop-v in
-    loop.invariant.put.long
-
-pub returns : goal.returns
-returns c =
-    let loop = c.loop-v in
-    let args = c.args in
-    let e : loop.v ≡ args.n + 1 = omega (arith, loop.invariant.within) in rw e at loop.invariant.put
+    rw put-in-column.ensures (firsts_more _ _ _ _ loop.invariant (omega (arith, pre.long)) (omega (arith, pre.few)) first-allowed.ensures)

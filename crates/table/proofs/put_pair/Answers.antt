@@ -6,24 +6,6 @@ use lib.ListN.{length-set}
 use Rattle.table.specs.Working.Table.{pair_at, put, put_pair}
 use Rattle.table.proofs.put_pair.Goals as goal
 
-pub bounds-t-at-2 : goal.bounds-t-at-2
-bounds-t-at-2 c =
-    let pre = c.requires in
-    let pair-index = c.pair_index in
-    simp length-set (omega (arith, pre.fits.long, pair-index.ensures.within))
-
-pub bounds-t-at-3 : goal.bounds-t-at-3
-bounds-t-at-3 c =
-    let pre = c.requires in
-    let pair-index = c.pair_index in
-    simp length-set (omega (arith, pre.fits.long, pair-index.ensures.within))
-
-pub bounds-t-at-4 : goal.bounds-t-at-4
-bounds-t-at-4 c =
-    let pre = c.requires in
-    let pair-index = c.pair_index in
-    simp length-set (omega (arith, pre.fits.long, pair-index.ensures.within))
-
 pub returns : goal.returns
 unfolding put_pair put
 returns c =

@@ -1,4 +1,3 @@
-use Prim.Native.Nat.{◌-◌}
 use mathlib.Core.Path.{◌≡◌, ◌∙◌}
 use native.Mathlib.Omega.{arith}
 use Rattle.units.specs.Limits.{none}
@@ -11,17 +10,7 @@ use Rattle.verifications.proofs.check_before.Goals as goal
 pub loop-u-init : goal.loop-u-init
 loop-u-init c =
     let pre = c.requires in
-    record { from_m = omega arith; within = omega (arith, pre.order); earliest = earliest_start _ _ _ _ }
-
-pub offset_bounds-time-u : goal.offset_bounds-time-u
-offset_bounds-time-u c =
-    let pre = c.requires in
-    omega (arith, pre.bounded.few)
-
-pub bounds-time-u : goal.bounds-time-u
-bounds-time-u c =
-    let pre = c.requires in
-    omega (arith, pre.bounded.few, pre.row.long)
+    earliest_start _ _ _ _
 
 pub arrival-requires : goal.arrival-requires
 arrival-requires c =
@@ -33,19 +22,6 @@ arrival-requires c =
       reached = row_capped _ _ _ _ _ pre.row _ (omega (arith, pre.order)) (omega (arith, pre.order));
     }
 
-pub offer-requires : goal.offer-requires
-offer-requires c =
-    let loop = c.loop-u in
-    record { time_room = omega (arith, loop.invariant.earliest.best_long); back_room = omega (arith, loop.invariant.earliest.from_long) }
-
-pub overflow_add-u : goal.overflow_add-u
-overflow_add-u c =
-    let pre = c.requires in
-    omega (arith, pre.bounded.few)
-
-pub loop-u-smaller : goal.loop-u-smaller
-loop-u-smaller c = omega arith
-
 pub loop-u-preserved : goal.loop-u-preserved
 loop-u-preserved c =
     let pre = c.requires in
@@ -53,21 +29,13 @@ loop-u-preserved c =
     let args = c.args in
     let arrival = c.arrival in
     let offer = c.offer in
-    let now = pre.row.times loop.u loop.invariant.from_m (omega arith) in
+    let now = pre.row.times loop.u (omega arith) (omega arith) in
     let start = arrival_ge args.t.now args.r loop.u _ args.v (reach_cap none args.m (arrival_at args.t.now args.r) loop.u) in
-    record {
-      from_m = omega (arith, loop.invariant.from_m);
-      within = omega arith;
-      earliest =
-          earliest_next _ _ _ _ _ _ _ _ _ _ loop.invariant.earliest loop.invariant.from_m (arrival.ensures ∙ rw now) (rw (arrival.ensures, now) start) offer.ensures;
-    }
-
-pub bounds-from-0 : goal.bounds-from-0
-bounds-from-0 c = omega arith
+    earliest_next _ _ _ _ _ _ _ _ _ _ loop.invariant (omega arith) (arrival.ensures ∙ rw now) (rw (arrival.ensures, now) start) offer.ensures
 
 pub returns : goal.returns
 unfolding back
 returns c =
     let loop = c.loop-u in
     let args = c.args in
-    let e : loop.u ≡ args.v = omega (arith, loop.invariant.within) in rw e at loop.invariant.earliest.from_at
+    let e : loop.u ≡ args.v = omega arith in rw e at loop.invariant.from_at

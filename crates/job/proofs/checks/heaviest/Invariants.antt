@@ -1,4 +1,4 @@
--- `job::checks::heaviest` meets its contract. The loop's invariant: `most` is the heaviest weight passed. The measure is what is left of the tasks.
+-- `job::checks::heaviest` meets its contract. The loop's invariant: `most` is the heaviest weight passed.
 -- Assumes nothing.
 use mathlib.Core.List.{List}
 use Prim.Native.Nat.{ℕ, ◌-◌, ◌≤◌}
@@ -12,6 +12,3 @@ pub record Passed (weights : List ℕ) (n most j : ℕ) : Type 0 where
 
 abbrev pub invariant-loop-j : goal.invariant-loop-j
 invariant-loop-j l = Passed l.weights l.n l.most l.j
-
-abbrev pub decreases-loop-j : goal.decreases-loop-j
-decreases-loop-j l = l.n - l.j

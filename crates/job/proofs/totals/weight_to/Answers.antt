@@ -9,22 +9,10 @@ pub loop-j-init : goal.loop-j-init
 unfolding total
 loop-j-init c = record { to = omega arith; value = refl; range = omega arith }
 
-pub offset_bounds-weights-j : goal.offset_bounds-weights-j
-offset_bounds-weights-j c = omega arith
-
-pub bounds-weights-j : goal.bounds-weights-j
-bounds-weights-j c = omega arith
-
 pub overflow_add-sum : goal.overflow_add-sum
 overflow_add-sum c =
     let wide = c.wide-sum in
     omega (arith, wide.ensures.range)
-
-pub overflow_add-j : goal.overflow_add-j
-overflow_add-j c = omega arith
-
-pub loop-j-smaller : goal.loop-j-smaller
-loop-j-smaller c = omega arith
 
 pub loop-j-preserved : goal.loop-j-preserved
 loop-j-preserved c =

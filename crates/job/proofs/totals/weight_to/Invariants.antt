@@ -1,5 +1,5 @@
 -- `job::totals::weight_to` meets its contract.
--- The loop's invariant: the sum is the total of the weights passed, each below 2^32, so that it cannot wrap. The measure is what is left of the tasks. Assumes
+-- The loop's invariant: the sum is the total of the weights passed, each below 2^32, so that it cannot wrap. Assumes
 -- nothing.
 use mathlib.Core.List.{List}
 use Prim.Native.Nat.{ℕ, ◌-◌, ◌*◌, ◌≤◌, ◌^◌}
@@ -14,6 +14,3 @@ pub record Added (weights : List ℕ) (n sum j : ℕ) : Type 0 where
 
 abbrev pub invariant-loop-j : goal.invariant-loop-j
 invariant-loop-j l = Added l.weights l.n l.sum l.j
-
-abbrev pub decreases-loop-j : goal.decreases-loop-j
-decreases-loop-j l = l.n - l.j

@@ -1,22 +1,19 @@
--- `sheet::lookup::find` meets its contract. The lookup's number by the branch: the section found, or the empty stretch. Assumes nothing.
+-- `sheet::lookup::find` meets its contract. The lookup's refusal and the empty stretch, or the section found. Assumes nothing.
 use mathlib.Core.Path.{◌∙◌, sym, ap}
+use native.Mathlib.Omega.{arith}
+use Rattle.refusals.specs.Checks.{told}
+use Rattle.refusals.proofs.Checks.{number_positive}
 use Rattle.sheet.proofs.Lookups.{found_refused, found_section}
 use Rattle.header.specs.Header.{offset, size}
 use Rattle.sheet.proofs.lookup.find.Goals as goal
 
-pub returns-then-number-ne0 : goal.returns-then-number-ne0
-returns-then-number-ne0 c =
-    let lookup-refusal = c.lookup_refusal-number in
-    let if1 = c.if-number-ne0 in
-    found_refused _ _ _ lookup-refusal.ensures if1.true
+pub returns-in-Err : goal.returns-in-Err
+returns-in-Err c =
+    let refusal = c.in-Err.refusal in
+    found_refused _ _ _ (c.number.ensures ∙ (sym (ap told c.in-Err.is) ∙ c.check_lookup.ensures)) (λ z. absurd (omega (arith, number_positive refusal, c.number.ensures)))
 
 pub returns : goal.returns
 returns c =
-    let index_of = c.index_of-i in
-    let if1 = c.if-number-ne0 in
-    let lookup-refusal = c.lookup_refusal-number in
-    let offset-of = c.offset_of in
-    let type_size = c.size_of in
-    let index = index_of.ensures.is in
-    found_section _ _ _ _ (sym if1.false ∙ lookup-refusal.ensures)
-    (offset-of.ensures.is ∙ ap (offset _) index) (type_size.ensures.is ∙ ap (size _) index)
+    let index = c.index_of-i.ensures.is in
+    found_section _ _ _ _ (sym (ap told c.in_default.is) ∙ c.check_lookup.ensures)
+    (c.offset_of.ensures.is ∙ ap (offset _) index) (c.size_of.ensures.is ∙ ap (size _) index)

@@ -16,12 +16,6 @@ section_field-requires c = omega arith
 pub bounds-weights-j : goal.bounds-weights-j
 bounds-weights-j c = omega arith
 
-pub overflow_add-j : goal.overflow_add-j
-overflow_add-j c = omega arith
-
-pub loop-j-smaller : goal.loop-j-smaller
-loop-j-smaller c = omega arith
-
 pub loop-j-preserved : goal.loop-j-preserved
 loop-j-preserved c =
     let loop = c.loop-j in

@@ -12,6 +12,3 @@ pub record Weights (part : List ℕ) (n : ℕ) (weights : List ℕ) (j : ℕ) : 
 
 abbrev pub invariant-loop-j : goal.invariant-loop-j
 invariant-loop-j l = Weights l.part l.n l.weights l.j
-
-abbrev pub decreases-loop-j : goal.decreases-loop-j
-decreases-loop-j l = l.n - l.j
