@@ -3,41 +3,29 @@
 
 ghost use Rattle.std.specs.Prelude.{◌≡◌, ◌≤◌};
 ghost use Rattle.refusals.specs.Refusals.{first};
+ghost use Rattle.refusals.specs.Checks.{told};
 ghost use Rattle.units.specs.Limits.{task_limit};
 ghost use Rattle.rules.specs.Rules.{marks_in, marks_read, value_conditions, bad_awaiting, over_total, broken_place, broken, finished_at};
 
 pub mod positions;
 
-use job::checks::{bad_count, job_refusal};
+use job::checks::{bad_count, check_job};
 use job::totals::weight_to;
-use marks::marks_refusal;
+use marks::check_marks;
 use positions::mark_at;
-use refusals::BAD_COUNT;
+use refusals::Refusal;
 use state::{Place, Run, Sums};
 
-// How many sums a run has.
-const SUMS: usize = 5;
-
-// The sums together pass the limit. Each is compared alone before it is added, so that the total cannot wrap.
+// The sums together pass the limit. A total past 64 bits counts as the greatest of them, so that it cannot wrap.
 pub fn over_total(sums: Sums) -> bool
     ensures { result ≡ over_total sums }
 {
-    let parts = [
-        sums.kept,
-        sums.redone,
-        sums.verify,
-        sums.saves,
-        sums.recovery,
-    ];
-    let mut total: u64 = 0;
-    let mut k: usize = 0;
-    while k < SUMS {
-        if Run::MAX_TOTAL < parts[k] {
-            return true;
-        }
-        total += parts[k];
-        k += 1;
-    }
+    let total = sums
+        .kept
+        .saturating_add(sums.redone)
+        .saturating_add(sums.verify)
+        .saturating_add(sums.saves)
+        .saturating_add(sums.recovery);
     Run::MAX_TOTAL < total
 }
 
@@ -71,38 +59,29 @@ pub fn broken_place(run: Run) -> bool
     over_total(run.place.sums)
 }
 
-// What 21 asks of task count, sheet values and marks: the first of 3 and 7 to 10, or 0. Entries past the last task are not read.
-fn value_refusal(run: Run) -> u64
-    ensures { result ≡ first (value_conditions run.job (marks_read run)) }
+// What 21 asks of task count, sheet values and marks: the first of 3 and 7 to 10. Entries past the last task are not read.
+fn check_values(run: Run) -> Result<(), Refusal>
+    ensures { told result ≡ first (value_conditions run.job (marks_read run)) }
 {
     let n = run.job.tasks;
     if bad_count(n) {
-        return BAD_COUNT;
+        return Err(Refusal::BadCount);
     }
-    let number = job_refusal(run.job);
-    if number != 0 {
-        return number;
-    }
+    check_job(run.job)?;
     let marks = run.marks;
-    marks_refusal(run.job, &marks[..n])
+    check_marks(run.job, &marks[..n])
 }
 
 // 21: the state breaks a rule.
 pub fn broken(run: Run) -> bool
     ensures { result ≡ broken run }
 {
-    if value_refusal(run) != 0 {
-        return true;
-    }
-    broken_place(run)
+    check_values(run).is_err() || broken_place(run)
 }
 
 // 22: position n and nothing awaited.
 pub fn finished(tasks: usize, place: Place) -> bool
     ensures { result ≡ finished_at tasks place }
 {
-    if place.position != tasks {
-        return false;
-    }
-    place.awaiting == 0
+    place.position == tasks && place.awaiting == 0
 }

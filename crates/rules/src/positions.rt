@@ -41,12 +41,10 @@ pub fn last_copy(run: Run, least: u8, v: usize) -> usize
     ensures { result ≡ last least (marks_in run) v }
 {
     let mut found: usize = 0;
-    let mut j: usize = 0;
-    while j + 1 < v {
+    for j in 0..v.saturating_sub(1) {
         if least <= run.marks[j] {
             found = j + 1;
         }
-        j += 1;
     }
     found
 }

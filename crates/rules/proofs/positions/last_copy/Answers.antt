@@ -10,20 +10,11 @@ use Rattle.rules.proofs.positions.last_copy.Goals.{then-least-run, else-least-ru
 pub loop-j-init : goal.loop-j-init
 loop-j-init c = record { to = omega arith; value = sym (last_first _ _) }
 
-pub overflow_add-j : goal.overflow_add-j
-overflow_add-j c = omega arith
-
 pub bounds-run-j : goal.bounds-run-j
 bounds-run-j c = omega arith
 
 pub overflow_add-found : goal.overflow_add-found
 overflow_add-found c = omega arith
-
-pub overflow_add-j-in-loop-j : goal.overflow_add-j-in-loop-j
-overflow_add-j-in-loop-j c = omega arith
-
-pub loop-j-smaller : goal.loop-j-smaller
-loop-j-smaller c = omega arith
 
 pub loop-j-preserved : goal.loop-j-preserved
 loop-j-preserved c =

@@ -1,5 +1,4 @@
--- `rules::positions::last_copy` meets its contract. The loop's invariant: the position found is the last copy before the next position. The measure is what is
--- left of the positions. Assumes nothing.
+-- `rules::positions::last_copy` meets its contract. The loop's invariant: the position found is the last copy before the next position. Assumes nothing.
 use Rattle.state.specs.declared.Run.{Run}
 use Prim.Native.Nat.{ℕ, suc, ◌-◌, ◌≤◌}
 use mathlib.Core.Path.{◌≡◌}
@@ -13,6 +12,3 @@ pub record Passed (run : Run) (least v found j : ℕ) : Type 0 where
 
 abbrev pub invariant-loop-j : goal.invariant-loop-j
 invariant-loop-j l = Passed l.run l.least l.v l.found l.j
-
-abbrev pub decreases-loop-j : goal.decreases-loop-j
-decreases-loop-j l = l.v - l.j
