@@ -1,18 +1,18 @@
 // What the programs read and write: a text by one call, the sheet on standard input, files, and marks or a number in an argument.
 #![tactic(auto)]
 
-ghost use Rattle.std.specs.Prelude.{◌≡◌, ◌<◌, ◌≤◌, true, false, length, take};
+ghost use Rattle.std.specs.Prelude.{◌≡◌, ◌<◌, ◌≤◌, true, length, take, IfOk};
 ghost use Rattle.std.specs.Io.KnownBytes.{Appends, Consumes, IsAtEnd};
-ghost use Rattle.console.specs.Counts.{IsPrefixLen};
+ghost use Rattle.console.specs.Counts.{IsPrefixLen, count_read};
 ghost use Rattle.output.specs.Texts.{line_room, text_of};
 ghost use Rattle.output.specs.Files.{FileTold};
 ghost use Rattle.output.specs.Working.Ready.{ReadyForComplaint};
 
-use numerals::{Number, to_marks, to_number};
+use numerals::{to_marks, to_number};
 use output::{Text, complaint};
 use std::env::{Env, FillError};
 use std::fs::File;
-use std::io::{Error, Read, Write};
+use std::io::{Read, Write};
 
 // Linux hands a program no argument of more than 131,071 bytes.
 pub const ARGUMENT_ROOM: usize = 131_072;
@@ -26,9 +26,6 @@ const MISSING: i32 = 2;
 const FORBIDDEN: i32 = 13;
 
 const DIRECTORY: i32 = 21;
-
-// No error, or one that the system gives no number.
-pub const UNNUMBERED: i32 = 0;
 
 // A text, to a file; whether all of it was written.
 pub fn print_to<W: Write>(file: &mut W, text: Text) -> bool
@@ -79,9 +76,10 @@ pub fn argument_count(rt: &HostRuntime) -> usize {
 // Whether the first argument is `--help`.
 fn is_help(rt: &HostRuntime) -> bool {
     let mut word = [0u8; HELP_ROOM];
-    let taken = argument(rt, 1, &mut word);
-    let n = taken.n;
-    &word[..n] == b"--help".as_slice()
+    match argument(rt, 1, &mut word) {
+        Some(word) => word == b"--help".as_slice(),
+        None => false,
+    }
 }
 
 // A first word of `--help` prints how the program is used; whether it is one.
@@ -120,151 +118,100 @@ pub fn words_answered(rt: &HostRuntime, most: usize, usage: &[u8]) -> bool {
     words_answered_to(rt, &mut rt.stdout(), most, usage)
 }
 
-// The line of a file that could not be read, by the system's number of the error.
-pub fn unreadable(which: &[u8], path: &[u8], error: i32) -> Text
+// The line of a file that could not be read, by the system's number of the error, where it gives one.
+pub fn unreadable(which: &[u8], path: &[u8], error: Option<i32>) -> Text
     requires { length which.now ≤ line_room }
     ensures { FileTold which.now path.now result }
 {
-    if error == MISSING {
-        return output::unreadable(which, path, b": missing");
+    match error {
+        Some(MISSING) => output::unreadable(which, path, b": missing"),
+        Some(FORBIDDEN) => output::unreadable(which, path, b": forbidden"),
+        Some(DIRECTORY) => output::unreadable(which, path, b": a directory"),
+        _ => output::unreadable(which, path, b""),
     }
-    if error == FORBIDDEN {
-        return output::unreadable(which, path, b": forbidden");
-    }
-    if error == DIRECTORY {
-        return output::unreadable(which, path, b": a directory");
-    }
-    output::unreadable(which, path, b"")
-}
-
-// The system's number of an error.
-fn number_of(error: &Error) -> i32 {
-    error.raw_os_error().unwrap_or(UNNUMBERED)
 }
 
 // Opens the file of this name, or gives the system's number of the error. A name that is no UTF-8 opens no file.
-pub fn open(rt: &HostRuntime, path: &[u8]) -> Result<File, i32> {
-    match str::from_utf8(path) {
-        Ok(name) => match File::open(rt, name) {
-            Ok(file) => Ok(file),
-            Err(error) => Err(number_of(&error)),
-        },
-        Err(_) => Err(UNNUMBERED),
-    }
+pub fn open(rt: &HostRuntime, path: &[u8]) -> Result<File, Option<i32>> {
+    let Ok(name) = str::from_utf8(path) else {
+        return Err(None);
+    };
+    File::open(rt, name).map_err(|error| error.raw_os_error())
 }
 
-// How many bytes a read put at the start of its buffer, whether it failed, and the system's number of the error.
-#[derive(Drop)]
-pub struct Taken {
+// A read that failed: how many bytes it had put at the start of its buffer by then, and the system's number of the error, where it gives one.
+#[derive(Clone, Copy)]
+pub struct Broken {
     pub n: usize,
-    pub failed: bool,
-    pub error: i32,
+    pub error: Option<i32>,
 }
 
-// Reads until the buffer is full, the input ends or a read fails. Unlike `read_exact`, it tells a failure from the input's end.
-pub fn read_all<R: Read>(file: &mut R, buf: &mut [u8]) -> Taken
-    ensures count { IsPrefixLen result.n buf.new }
-    ensures bytes { Consumes (R.remaining file.old) (R.remaining file.new) (take result.n buf.new) }
-    ensures end { result.failed ≡ false → result.n < length buf.new → IsAtEnd (R.remaining file.new) }
+// Reads until the buffer is full, the input ends or a read fails; how many bytes it put at the start of the buffer. Unlike `read_exact`, it tells a failure from
+// the input's end.
+pub fn read_all<R: Read>(file: &mut R, buf: &mut [u8]) -> Result<usize, Broken>
+    ensures count { IsPrefixLen (count_read result) buf.new }
+    ensures bytes { Consumes (R.remaining file.old) (R.remaining file.new) (take (count_read result) buf.new) }
+    ensures end { IfOk result (λ n. n < length buf.new → IsAtEnd (R.remaining file.new)) }
 {
     let mut n: usize = 0;
     while n < buf.len() {
         match file.read(&mut buf[n..]) {
-            Ok(0) => {
-                return Taken {
-                    n,
-                    failed: false,
-                    error: UNNUMBERED,
-                };
-            }
+            Ok(0) => return Ok(n),
             Ok(more) => n += more,
             Err(error) => {
-                return Taken {
+                return Err(Broken {
                     n,
-                    failed: true,
-                    error: number_of(&error),
-                };
+                    error: error.raw_os_error(),
+                });
             }
         }
     }
-    Taken {
-        n,
-        failed: false,
-        error: UNNUMBERED,
-    }
+    Ok(n)
 }
 
-// Argument i, at the start of the buffer; it failed where there is none, or where the buffer is too short for it.
-pub fn argument(rt: &HostRuntime, i: usize, buf: &mut [u8]) -> Taken
-    ensures { IsPrefixLen result.n buf.new }
-{
-    match rt.arg(i, buf) {
-        Ok(n) => Taken {
-            n,
-            failed: false,
-            error: UNNUMBERED,
-        },
-        Err(_) => Taken {
-            n: 0,
-            failed: true,
-            error: UNNUMBERED,
-        },
-    }
+// Argument i, at the start of the buffer; none where there is none, or where the buffer is too short for it.
+pub fn argument<'a>(rt: &HostRuntime, i: usize, buf: &'a mut [u8]) -> Option<&'a [u8]> {
+    let n = rt.arg(i, buf).ok()?;
+    Some(&buf[..n])
 }
 
 // The sheet on standard input; a read that fails has its line.
-pub fn read_sheet(rt: &HostRuntime, sheet: &mut [u8]) -> Taken
-    ensures { IsPrefixLen result.n sheet.new }
-{
-    let taken = read_all(&mut rt.stdin(), sheet);
-    if taken.failed {
+pub fn read_sheet<'a>(rt: &HostRuntime, buf: &'a mut [u8]) -> Option<&'a [u8]> {
+    let Ok(n) = read_all(&mut rt.stdin(), buf) else {
         complain(rt, b"cannot read: ", b"sheet");
-    }
-    taken
+        return None;
+    };
+    Some(&buf[..n])
 }
 
 // The marks that the first argument gives as digits; one that is too long or no digits has its line.
-pub fn read_marks(rt: &HostRuntime, text: &mut [u8]) -> Taken
-    ensures { IsPrefixLen result.n text.new }
-{
-    let taken = argument(rt, 1, text);
-    if taken.failed {
+pub fn read_marks<'a>(rt: &HostRuntime, buf: &'a mut [u8]) -> Option<&'a [u8]> {
+    let Ok(n) = rt.arg(1, buf) else {
         complain(rt, b"argument too long: ", b"marks");
-        return taken;
+        return None;
+    };
+    if !to_marks(&mut buf[..n]) {
+        complain(rt, b"not digits: ", b"marks");
+        return None;
     }
-    let n = taken.n;
-    if to_marks(&mut text[..n]) {
-        return taken;
-    }
-    complain(rt, b"not digits: ", b"marks");
-    Taken {
-        n,
-        failed: true,
-        error: UNNUMBERED,
-    }
+    Some(&buf[..n])
 }
 
 // The number that argument i gives in digits; one that is missing, too long or no number has its line.
-pub fn read_number(rt: &HostRuntime, i: usize, which: &[u8]) -> Number
+pub fn read_number(rt: &HostRuntime, i: usize, which: &[u8]) -> Option<u64>
     requires { length which.now ≤ line_room }
 {
-    let mut text = [0u8; ARGUMENT_ROOM];
-    let none = Number {
-        value: 0,
-        failed: true,
-    };
     if !has_argument(rt, i) {
         complain(rt, b"missing argument: ", which);
-        return none;
+        return None;
     }
-    let taken = argument(rt, i, &mut text);
-    if taken.failed {
+    let mut buf = [0u8; ARGUMENT_ROOM];
+    let Some(text) = argument(rt, i, &mut buf) else {
         complain(rt, b"argument too long: ", which);
-        return none;
-    }
-    let n = taken.n;
-    let number = to_number(&text[..n]);
-    if number.failed {
+        return None;
+    };
+    let number = to_number(text);
+    if number.is_none() {
         complain(rt, b"not a number: ", which);
     }
     number

@@ -21,13 +21,11 @@ fn text_of(sheet: &[u8], powers: Powers) -> Text
 
 // The plan of the sheet on standard input.
 fn plan(rt: &HostRuntime, powers: Powers) {
-    let mut sheet = [0u8; SHEET_ROOM];
-    let taken = console::read_sheet(rt, &mut sheet);
-    if taken.failed {
+    let mut buf = [0u8; SHEET_ROOM];
+    let Some(sheet) = console::read_sheet(rt, &mut buf) else {
         return;
-    }
-    let n = taken.n;
-    console::print(rt, text_of(&sheet[..n], powers));
+    };
+    console::print(rt, text_of(sheet, powers));
 }
 
 fn main(rt: HostRuntime) {
@@ -38,19 +36,11 @@ fn main(rt: HostRuntime) {
     ) {
         return;
     }
-    let computing = console::read_number(&rt, 1, b"computing power");
-    if computing.failed {
+    let Some(computing) = console::read_number(&rt, 1, b"computing power") else {
         return;
-    }
-    let saving = console::read_number(&rt, 2, b"saving power");
-    if saving.failed {
+    };
+    let Some(saving) = console::read_number(&rt, 2, b"saving power") else {
         return;
-    }
-    plan(
-        &rt,
-        Powers {
-            computing: computing.value,
-            saving: saving.value,
-        },
-    );
+    };
+    plan(&rt, Powers { computing, saving });
 }

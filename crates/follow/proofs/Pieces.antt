@@ -17,7 +17,8 @@ use Rattle.naming.specs.declared.NamedStepped.{NamedStepped}
 use Rattle.commands.proofs.Logs.{two_logs}
 use Rattle.output.specs.Texts.{refused_text, standing_text}
 use Rattle.follow.specs.Prints.{named_text, Leads, LogLeads}
-use Rattle.follow.specs.declared.Led.{Led}
+use Rattle.output.specs.declared.Text.{Text}
+use Rattle.std.specs.Prelude.{Result, Ok, Err}
 
 pub text_refused : (s : NamedStepped) → (s.number ≡ Numbers.accepted → ⊥) → named_text s ≡ refused_text s.number
 unfolding named_text
@@ -78,13 +79,10 @@ before_number state s = go (eqb s.number 0)
     go false = refl
 
 -- what an answer leads to, whatever state a refusal hands back
-lead_before : {r : Led} (state : NamedRun) (s : NamedStepped) → Leads s r → Leads (or_before state s) r
-lead_before state s l =
-    record {
-      text = rw (before_text state s) l.text;
-      goes = λ e. rw (before_accepted state s (l.goes e).0) (l.goes e);
-      ends = λ e z. l.ends e (sym (before_number state s) ∙ z);
-    }
+lead_before : (r : Result NamedRun Text) (state : NamedRun) (s : NamedStepped) → Leads s r → Leads (or_before state s) r
+unfolding Leads
+lead_before (Ok next) state s l = rw (before_accepted state s l.0) l
+lead_before (Err text) state s l = (λ z. l.0 (sym (before_number state s) ∙ z), rw (before_text state s) l.1)
 
 -- a state reached from another by pieces that were accepted
 pub record Reached (first state : NamedRun) : Type 0 where
@@ -106,7 +104,12 @@ reached_more {first} {state} piece e reached =
           ∙ (ap (or_before first) (two_logs state piece b e) ∙ before_before first state (log_of (log_of state piece).state b)));
     }
 
+-- an answer that leads on
+pub lead_goes : (s : NamedStepped) (next : NamedRun) → Leads s (Ok next) → (s.number ≡ 0) × (next ≡ s.state)
+unfolding Leads
+lead_goes s next l = l
+
 -- the last piece
-pub reached_leads : {first state : NamedRun} {r : Led} (piece : List ℕ) → Reached first state → Leads (log_of state piece) r → LogLeads first r
-reached_leads {first} {state} piece reached l =
-    record { log = reached.pieces ++ piece; leads = rw (reached.same piece) (lead_before first (log_of state piece) l) }
+pub reached_leads : {first state : NamedRun} (r : Result NamedRun Text) (piece : List ℕ) → Reached first state → Leads (log_of state piece) r → LogLeads first r
+reached_leads {first} {state} r piece reached l =
+    record { log = reached.pieces ++ piece; leads = rw (reached.same piece) (lead_before r first (log_of state piece) l) }

@@ -1,7 +1,6 @@
 -- Calls that are made one by one have the text of all of them in turn. Assumes nothing.
 use Prim.Native.Nat.{ℕ, ◌+◌, ◌-◌, ◌*◌, ◌<◌, ◌≤◌}
 use mathlib.Core.Path.{◌≡◌, refl, sym, ◌∙◌, ap}
-use mathlib.Core.Bool.{true, false, true≢false}
 use mathlib.Core.List.{List, [], ◌∷◌, ◌++◌, append_assoc, append-nil}
 use mathlib.Core.Logic.{◌⊎◌, inl, inr}
 use native.Mathlib.Decide.{ℕ_discrete}
@@ -9,7 +8,6 @@ use native.Mathlib.Nat.{eq-zero-or-pos}
 use native.Mathlib.Omega.{arith}
 use lib.ListN.{length, get_or, length-append}
 use borrow.Author.Tests.{eq-eqb, ne_eqb}
-use Rattle.refusals.specs.Numbers
 use Rattle.starting.specs.Start.{start_of}
 use Rattle.named.specs.declared.NamedRun.{NamedRun}
 use Rattle.naming.specs.Calls.{answered}
@@ -17,10 +15,10 @@ use Rattle.naming.specs.Turns.{Call, call_of, in_turn}
 use Rattle.naming.specs.Turns.Call.{logged}
 use Rattle.naming.specs.declared.NamedStepped.{NamedStepped}
 use Rattle.output.specs.Words.{name_word, drop_word, return_word}
-use Rattle.output.specs.Texts.{Holds}
+use Rattle.output.specs.Texts.{standing_text, Holds}
 use Rattle.output.specs.declared.Text.{Text}
-use Rattle.follow.specs.Prints.{named_text, unnamed, Unread, LogLed, CallLed, TurnsPrint, RunPrints, FollowPrints, CallPrints}
-use Rattle.follow.specs.declared.Led.{Led}
+use Rattle.follow.specs.Prints.{named_text, unnamed, Unread, Leads, Lost, LogLed, CallLed, TurnsPrint, RunPrints, FollowPrints, CallPrints}
+use Rattle.std.specs.Prelude.{Result, Ok, Err}
 
 -- the words differ in their first letters
 pub name_drop : name_word ≡ drop_word → ⊥
@@ -56,37 +54,37 @@ pub through_none : (first : NamedRun) (words : ℕ) → Through first first word
 through_none first words = record { calls = []; all = omega arith; same = λ cs. refl }
 
 -- one call more
-pub through_more : {first state : NamedRun} {words left : ℕ} {r : Led} → 2 ≤ left → Through first state words left → CallLed state r → r.last ≡ false
-    → Through first r.state words (left - 2)
-through_more {first} {state} {words} {left} {r} h t (inl l) e =
-    let goes = l.leads.goes e in
+pub through_more : {first state : NamedRun} {words left : ℕ} {next : NamedRun} → 2 ≤ left → Through first state words left → CallLed state (Ok next)
+    → Through first next words (left - 2)
+unfolding Leads Lost
+through_more {first} {state} {words} {left} {next} h t (inl l) =
     record {
       calls = t.calls ++ (l.call ∷ []);
       all = omega (arith, t.all, length-append t.calls (l.call ∷ []));
       same =
           λ cs.
-          rw (append_assoc t.calls (l.call ∷ []) cs, goes.1)
-          (t.same (l.call ∷ cs) ∙ call_then state l.call cs goes.0);
+          rw (append_assoc t.calls (l.call ∷ []) cs, l.leads.1)
+          (t.same (l.call ∷ cs) ∙ call_then state l.call cs l.leads.0);
     }
-through_more h t (inr l) e = absurd (true≢false (sym l.lost.last ∙ e))
+through_more h t (inr l) = absurd l.lost
 
 -- the last call
-pub through_last : {first state : NamedRun} {words left : ℕ} {r : Led} → 2 ≤ left → Through first state words left → CallLed state r → r.last ≡ true
-    → TurnsPrint first words r.text
-through_last {first} {state} {words} {left} {r} h t (inl l) e =
+pub through_last : {first state : NamedRun} {words left : ℕ} {r : Text} → 2 ≤ left → Through first state words left → CallLed state (Err r) → TurnsPrint first words r
+unfolding Leads Lost
+through_last {first} {state} {words} {left} {r} h t (inl l) =
     let is = t.same (l.call ∷ []) ∙ one_call state l.call in
     inl (record {
       calls = t.calls ++ (l.call ∷ []);
       few = omega (arith, t.all, length-append t.calls (l.call ∷ []));
-      all = λ z. absurd (l.leads.ends e (ap (λ (s : NamedStepped). s.number) (sym is) ∙ z));
-      text = rw is l.leads.text;
+      all = λ z. absurd (l.leads.0 (ap (λ (s : NamedStepped). s.number) (sym is) ∙ z));
+      text = rw is l.leads.1;
     })
-through_last h t (inr l) e = inr (record { asked = omega (arith, t.all); path = l.path; told = l.lost.told })
+through_last h t (inr l) = inr (record { asked = omega (arith, t.all); path = l.path; told = l.lost })
 
 -- no word left
 pub through_end : {first state : NamedRun} {words left : ℕ} {r : Text} → left < 2 → Through first state words left
-    → Holds (named_text (answered Numbers.accepted state)) r → TurnsPrint first words r
-unfolding in_turn
+    → Holds (standing_text state.run.place state.names) r → TurnsPrint first words r
+unfolding in_turn named_text
 through_end {first} {state} h t held =
     inl (record {
       calls = t.calls;
@@ -96,37 +94,36 @@ through_end {first} {state} h t held =
     })
 
 -- a further log is one call
-pub log_call : {state : NamedRun} {r : Led} (path : List ℕ) → LogLed state path r → CallLed state r
+pub log_call : {state : NamedRun} {r : Result NamedRun Text} (path : List ℕ) → LogLed state path r → CallLed state r
 unfolding call_of
 log_call path (inl l) = inl (record { call = logged l.log; leads = l.leads })
 log_call path (inr l) = inr (record { path = path; lost = l })
 
 -- the log alone, where nothing is called after it
-pub log_last : {state : NamedRun} {path : List ℕ} {words : ℕ} {r : Led} → LogLed state path r → r.last ≡ true → RunPrints state path words r.text
-unfolding call_of
-log_last {state} (inl l) e =
+pub log_last : {state : NamedRun} {path : List ℕ} {words : ℕ} {r : Text} → LogLed state path (Err r) → RunPrints state path words r
+unfolding call_of Leads Lost
+log_last {state} (inl l) =
     let is = one_call state (logged l.log) in
     inl (record {
       log = l.log;
       calls = [];
       few = omega arith;
-      all = λ z. absurd (l.leads.ends e (ap (λ (s : NamedStepped). s.number) (sym is) ∙ z));
-      text = rw is l.leads.text;
+      all = λ z. absurd (l.leads.0 (ap (λ (s : NamedStepped). s.number) (sym is) ∙ z));
+      text = rw is l.leads.1;
     })
-log_last (inr l) e = inr (inl l.told)
+log_last (inr l) = inr (inl l)
 
 -- the log, and the calls after it
-pub log_then : {state : NamedRun} {path : List ℕ} {words : ℕ} {r : Led} {q : Text} → LogLed state path r → r.last ≡ false → TurnsPrint r.state words q
+pub log_then : {state : NamedRun} {path : List ℕ} {words : ℕ} {next : NamedRun} {q : Text} → LogLed state path (Ok next) → TurnsPrint next words q
     → RunPrints state path words q
-unfolding call_of
-log_then {state} {path} {words} {r} {q} (inl l) e (inl t) =
-    let goes = l.leads.goes e in
-    let text = rw goes.1 at t.text in
-    let all = rw goes.1 at t.all in
-    let is = call_then state (logged l.log) t.calls goes.0 in
+unfolding call_of Leads Lost
+log_then {state} {path} {words} {next} {q} (inl l) (inl t) =
+    let text = rw l.leads.1 at t.text in
+    let all = rw l.leads.1 at t.all in
+    let is = call_then state (logged l.log) t.calls l.leads.0 in
     inl (record { log = l.log; calls = t.calls; few = t.few; all = λ z. all (ap (λ (s : NamedStepped). s.number) (sym is) ∙ z); text = rw is text })
-log_then (inl l) e (inr t) = inr (inr t)
-log_then (inr l) e t = absurd (true≢false (sym l.last ∙ e))
+log_then (inl l) (inr t) = inr (inr t)
+log_then (inr l) t = absurd l
 
 -- whatever is printed, it is in its room
 unread_within : (path : List ℕ) (r : Text) → Unread path r → r.length ≤ length r.bytes

@@ -1,5 +1,5 @@
 -- What the program prints for a sheet, marks, a log and the words after it.
-use Rattle.std.specs.Prelude.{ℕ, ◌+◌, ◌-◌, ◌*◌, ◌<◌, ◌≤◌, ◌≡◌, true, false, cond, ◌⊎◌, List, ◌∷◌, eqb, length}
+use Rattle.std.specs.Prelude.{ℕ, ◌+◌, ◌-◌, ◌*◌, ◌<◌, ◌≤◌, ◌≡◌, cond, ◌⊎◌, ◌↔◌, List, ◌∷◌, eqb, length, Option, Some, Result, Ok, Err}
 use Rattle.refusals.specs.Numbers
 use Rattle.state.specs.declared.Run.{Run}
 use Rattle.starting.specs.Start.{start_of}
@@ -13,7 +13,8 @@ use Rattle.output.specs.Words.{endless_words, log_word, name_word, drop_word, re
 use Rattle.output.specs.Files.{FileTold}
 use Rattle.output.specs.Texts.{refused_text, complaint_text, standing_text, Holds}
 use Rattle.output.specs.declared.Text.{Text}
-use Rattle.follow.specs.declared.Led.{Led}
+use Rattle.follow.specs.declared.Command.{Command}
+use Rattle.follow.specs.declared.Command.TheVariants.{Name, Drop, Return, Log}
 
 -- the text of an answer: where the run stands, what it has counted and the names that it holds, or the refusal
 unfoldable pub named_text : NamedStepped → List ℕ
@@ -39,6 +40,13 @@ words_after count = count - first_pair
 abbrev pub Unread : (path : List ℕ) → Text → Type 0
 Unread path r = FileTold log_word path r ⊎ Holds (complaint_text endless_words log_word) r
 
+-- the command that a word asks for: each of the known words has its own, and any other none
+pub record CommandOf (word : List ℕ) (r : Option Command) : Type 0 where
+  pub names : (r ≡ Some Name) ↔ (word ≡ name_word)
+  pub drops : (r ≡ Some Drop) ↔ (word ≡ drop_word)
+  pub returns : (r ≡ Some Return) ↔ (word ≡ return_word)
+  pub logs : (r ≡ Some Log) ↔ (word ≡ log_word)
+
 -- the answer to the call that a word with the number k asks for
 pub record WordAnswers (state : NamedRun) (word : List ℕ) (k : ℕ) (r : NamedStepped) : Type 0 where
   pub call : Call
@@ -47,37 +55,36 @@ pub record WordAnswers (state : NamedRun) (word : List ℕ) (k : ℕ) (r : Named
   pub drops : word ≡ drop_word → call ≡ dropped k
   pub returns : word ≡ return_word → call ≡ returned k
 
--- an answer's text, and its state where it is no refusal, from which the next call goes on
-pub record Leads (answer : NamedStepped) (r : Led) : Type 0 where
-  pub text : Holds (named_text answer) r.text
-  pub goes : r.last ≡ false → (answer.number ≡ 0) × (r.state ≡ answer.state)
-  pub ends : r.last ≡ true → answer.number ≡ 0 → ⊥
+-- an answer that is no refusal leads on from its state, and a refusal to its text, after which nothing is called
+unfoldable pub Leads : NamedStepped → Result NamedRun Text → Type 0
+Leads answer (Ok state) = (answer.number ≡ 0) × (state ≡ answer.state)
+Leads answer (Err text) = (answer.number ≡ 0 → ⊥) × Holds (named_text answer) text
 
 -- nothing is called after a log that could not be read
-pub record Lost (path : List ℕ) (r : Led) : Type 0 where
-  pub told : Unread path r.text
-  pub last : r.last ≡ true
+unfoldable pub Lost : (path : List ℕ) → Result NamedRun Text → Type 0
+Lost path (Ok state) = ⊥
+Lost path (Err text) = Unread path text
 
 -- a log, read piece by piece and followed as one
-pub record LogLeads (state : NamedRun) (r : Led) : Type 0 where
+pub record LogLeads (state : NamedRun) (r : Result NamedRun Text) : Type 0 where
   -- some log: which bytes were read, and whether they were all, no contract says
   pub log : List ℕ
   pub leads : Leads (log_of state log) r
 
 -- what a log of this name leads to
-abbrev pub LogLed : NamedRun → (path : List ℕ) → Led → Type 0
+abbrev pub LogLed : NamedRun → (path : List ℕ) → Result NamedRun Text → Type 0
 LogLed state path r = LogLeads state r ⊎ Lost path r
 
 -- a call, or a log of some name that could not be read: which words were given no contract says
-pub record CallLeads (state : NamedRun) (r : Led) : Type 0 where
+pub record CallLeads (state : NamedRun) (r : Result NamedRun Text) : Type 0 where
   pub call : Call
   pub leads : Leads (call_of state call) r
 
-pub record SomeLost (r : Led) : Type 0 where
+pub record SomeLost (r : Result NamedRun Text) : Type 0 where
   pub path : List ℕ
   pub lost : Lost path r
 
-abbrev pub CallLed : NamedRun → Led → Type 0
+abbrev pub CallLed : NamedRun → Result NamedRun Text → Type 0
 CallLed state r = CallLeads state r ⊎ SomeLost r
 
 -- the text of calls in turn, one for each two words, unless a refusal ended them

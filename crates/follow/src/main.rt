@@ -6,8 +6,8 @@
 ghost use Rattle.std.specs.Prelude.{◌≡◌, ◌≤◌, length};
 ghost use Rattle.output.specs.Words.{endless_words, log_word};
 ghost use Rattle.output.specs.Files.{FileTold};
-ghost use Rattle.output.specs.Texts.{line_room, complaint_text, Holds};
-ghost use Rattle.follow.specs.Prints.{named_text, words_after, WordAnswers, Leads, Lost, LogLed, CallLed, TurnsPrint, FollowPrints, CallPrints};
+ghost use Rattle.output.specs.Texts.{line_room, complaint_text, standing_text, Holds};
+ghost use Rattle.follow.specs.Prints.{words_after, CommandOf, WordAnswers, Leads, LogLed, CallLed, TurnsPrint, FollowPrints, CallPrints};
 
 use console::ARGUMENT_ROOM;
 use header::SHEET_ROOM;
@@ -35,65 +35,58 @@ const NAME_MOST: u64 = 255;
 
 const NAME_COUNT: u64 = NAME_MOST + 1;
 
-// What a call leads to: the text that is printed if it is the last, whether it is, and the state to go on from.
-#[derive(Drop)]
-struct Led {
-    text: Text,
-    last: bool,
-    state: NamedRun,
+// The words that a call begins with.
+#[derive(Clone, Copy)]
+enum Command {
+    Name,
+    Drop,
+    Return,
+    Log,
 }
 
-// The text of an answer: where the run stands, what it has counted and the names that it holds, or the number of the refusal.
-fn text_of(answer: NamedStepped) -> Text
-    ensures { Holds (named_text answer) result }
-{
-    if answer.number != ACCEPTED {
-        return refused_text(answer.number);
+impl Command {
+    // The command that a word asks for, if it is known.
+    fn from_word(word: &[u8]) -> Option<Command>
+        ensures { CommandOf word.now result }
+    {
+        if word == b"name".as_slice() {
+            return Some(Command::Name);
+        }
+        if word == b"drop".as_slice() {
+            return Some(Command::Drop);
+        }
+        if word == b"return".as_slice() {
+            return Some(Command::Return);
+        }
+        if word == b"log".as_slice() {
+            return Some(Command::Log);
+        }
+        None
     }
-    let state = answer.state;
-    let run = state.run;
-    let names = state.names;
-    let place = run.place;
-    standing_text(place, names)
 }
 
-// Nothing is called after a refusal.
-fn lead(answer: NamedStepped) -> Led
+// Where the run stands, what it has counted and the names that it holds.
+fn text_of(state: NamedRun) -> Text
+    ensures { Holds (standing_text state.run.place state.names) result }
+{
+    standing_text(state.run.place, state.names)
+}
+
+// An answer leads on from its state; a refusal leads to its text alone, and nothing is called after it.
+fn lead(answer: NamedStepped) -> Result<NamedRun, Text>
     ensures { Leads answer result }
 {
-    let text = text_of(answer);
-    let state = answer.state;
-    let number = answer.number;
-    if number != ACCEPTED {
-        return Led {
-            text,
-            last: true,
-            state,
-        };
+    if answer.number != ACCEPTED {
+        return Err(refused_text(answer.number));
     }
-    Led {
-        text,
-        last: false,
-        state,
-    }
+    Ok(answer.state)
 }
 
 // The log cannot be read, by the system's number of the error.
-fn unreadable(path: &[u8], error: i32) -> Text
+fn unreadable(path: &[u8], error: Option<i32>) -> Text
     ensures { FileTold log_word path.now result }
 {
     console::unreadable(b"log", path, error)
-}
-
-fn lose(path: &[u8], error: i32, state: NamedRun) -> Led
-    ensures { Lost path.now result }
-{
-    let text = unreadable(path, error);
-    Led {
-        text,
-        last: true,
-        state,
-    }
 }
 
 // The log has no end.
@@ -105,97 +98,81 @@ fn endless() -> Text
 
 // Follows the log piece by piece from the state given. A piece holds whole records, and one that is not full is the last.
 // After full pieces only, the last is empty: an empty log after accepted records is accepted and changes nothing.
-fn follow_log(first: NamedRun, path: &[u8], file: &mut File) -> Led
+fn follow_log(first: NamedRun, path: &[u8], file: &mut File) -> Result<NamedRun, Text>
     ensures { LogLed first path.now result }
 {
     let mut piece = [0u8; PIECE_LENGTH];
     let mut state = first;
-    let mut i: u64 = 0;
-    while i < MAX_PIECES {
-        let taken = console::read_all(file, &mut piece);
-        if taken.failed {
-            return lose(path, taken.error, state);
-        }
-        let n = taken.n;
-        let followed = naming::follow(state, &piece[..n]);
-        if followed.number != ACCEPTED {
-            return lead(followed);
-        }
+    for _i in 0..MAX_PIECES {
+        let n = match console::read_all(file, &mut piece) {
+            Ok(n) => n,
+            Err(broken) => return Err(unreadable(path, broken.error)),
+        };
+        state = lead(naming::follow(state, &piece[..n]))?;
         if n < PIECE_LENGTH {
-            return lead(followed);
+            return Ok(state);
         }
-        state = followed.state;
-        i += 1;
     }
-    let text = endless();
-    Led {
-        text,
-        last: true,
-        state,
-    }
+    Err(endless())
 }
 
 // Opens a further log and follows it.
-fn open_log(rt: &HostRuntime, state: NamedRun, path: &[u8]) -> Led
+fn open_log(rt: &HostRuntime, state: NamedRun, path: &[u8]) -> Result<NamedRun, Text>
     ensures { LogLed state path.now result }
 {
     match console::open(rt, path) {
         Ok(mut file) => follow_log(state, path, &mut file),
-        Err(error) => lose(path, error, state),
+        Err(error) => Err(unreadable(path, error)),
     }
 }
 
 // The log that argument i names.
-fn log_at(rt: &HostRuntime, state: NamedRun, i: usize) -> Led
+fn log_at(rt: &HostRuntime, state: NamedRun, i: usize) -> Result<NamedRun, Text>
     ensures { CallLed state result }
 {
-    let mut path = [0u8; PATH_ROOM];
-    let taken = console::argument(rt, i, &mut path);
-    let n = taken.n;
-    open_log(rt, state, &path[..n])
+    let mut buf = [0u8; PATH_ROOM];
+    let path = console::argument(rt, i, &mut buf).unwrap_or(&[]);
+    open_log(rt, state, path)
 }
 
 // The name that argument i gives.
 fn name_at(rt: &HostRuntime, i: usize) -> u8 {
-    let number = console::read_number(rt, i, b"name");
-    (number.value % NAME_COUNT) as u8
+    let number = console::read_number(rt, i, b"name").unwrap_or(0);
+    (number % NAME_COUNT) as u8
 }
 
 // The answer to a word that takes a name; a word that is not known has been told before.
 fn answer_to(state: NamedRun, word: &[u8], name: u8) -> NamedStepped
     ensures { WordAnswers state word.now name result }
 {
-    if word == b"name".as_slice() {
-        return naming::name(state, name);
+    match Command::from_word(word) {
+        Some(Command::Name) => naming::name(state, name),
+        Some(Command::Drop) => naming::drop_name(state, name),
+        // one arm each: what an arm of several patterns knows of the word is not enough for the proof
+        Some(Command::Return) => naming::return_to(state, name),
+        Some(Command::Log) => naming::return_to(state, name),
+        None => naming::return_to(state, name),
     }
-    if word == b"drop".as_slice() {
-        return naming::drop_name(state, name);
-    }
-    naming::return_to(state, name)
 }
 
 // The call that a pair of words asks for: the word at i, and its partner.
-fn call_at(rt: &HostRuntime, state: NamedRun, i: usize, partner: usize) -> Led
+fn call_at(rt: &HostRuntime, state: NamedRun, i: usize, partner: usize) -> Result<NamedRun, Text>
     ensures { CallLed state result }
 {
-    let mut word = [0u8; ARGUMENT_ROOM];
-    let taken = console::argument(rt, i, &mut word);
-    let n = taken.n;
-    if &word[..n] == b"log".as_slice() {
+    let mut buf = [0u8; ARGUMENT_ROOM];
+    let word = console::argument(rt, i, &mut buf).unwrap_or(&[]);
+    if let Some(Command::Log) = Command::from_word(word) {
         return log_at(rt, state, partner);
     }
     let name = name_at(rt, partner);
-    lead(answer_to(state, &word[..n], name))
+    lead(answer_to(state, word, name))
 }
 
 // How many words come after the log.
 fn words_after(count: usize) -> usize
     ensures { result ≡ words_after count }
 {
-    if count < FIRST_PAIR {
-        return 0;
-    }
-    count - FIRST_PAIR
+    count.saturating_sub(FIRST_PAIR)
 }
 
 // The calls of the pairs of words, in turn from the state given; the text of the last.
@@ -203,20 +180,14 @@ fn call_in_turn(rt: &HostRuntime, first: NamedRun, count: usize) -> Text
     ensures { TurnsPrint first (words_after count) result }
 {
     let mut state = first;
-    let mut left = words_after(count);
-    while PAIR <= left {
-        let i = count - left;
-        let led = call_at(rt, state, i, i + 1);
-        if led.last {
-            return led.text;
-        }
-        state = led.state;
-        left -= PAIR;
+    for pair in 0..words_after(count) / PAIR {
+        let i = FIRST_PAIR + PAIR * pair;
+        state = match call_at(rt, state, i, i + 1) {
+            Ok(next) => next,
+            Err(text) => return text,
+        };
     }
-    text_of(NamedStepped {
-        number: ACCEPTED,
-        state,
-    })
+    text_of(state)
 }
 
 // The run of the sheet and the marks through the log, and the calls after it. The log is read only after both are accepted.
@@ -236,11 +207,10 @@ fn follow(
     }
     let run = started.run;
     let names = Names::none();
-    let led = follow_log(NamedRun { run, names }, path, file);
-    if led.last {
-        return led.text;
+    match follow_log(NamedRun { run, names }, path, file) {
+        Ok(state) => call_in_turn(rt, state, count),
+        Err(text) => text,
     }
-    call_in_turn(rt, led.state, count)
 }
 
 // What is printed. The log is opened after the sheet is read, and before it is looked at.
@@ -255,24 +225,21 @@ fn open_and_follow(rt: &HostRuntime, sheet: &[u8], marks: &[u8], path: &[u8], co
 
 // The run under the sheet on standard input.
 fn read_and_follow(rt: &HostRuntime, marks: &[u8], path: &[u8], count: usize) {
-    let mut sheet = [0u8; SHEET_ROOM];
-    let taken = console::read_sheet(rt, &mut sheet);
-    if taken.failed {
+    let mut buf = [0u8; SHEET_ROOM];
+    let Some(sheet) = console::read_sheet(rt, &mut buf) else {
         return;
-    }
-    let n = taken.n;
-    console::print(rt, open_and_follow(rt, &sheet[..n], marks, path, count));
+    };
+    console::print(rt, open_and_follow(rt, sheet, marks, path, count));
 }
 
 // Whether argument i is the number of a name; one that is not has its line.
 fn is_name(rt: &HostRuntime, i: usize, word: &[u8]) -> bool
     requires { length word.now ≤ line_room }
 {
-    let number = console::read_number(rt, i, word);
-    if number.failed {
+    let Some(number) = console::read_number(rt, i, word) else {
         return false;
-    }
-    if NAME_MOST < number.value {
+    };
+    if NAME_MOST < number {
         console::complain(rt, b"out of range: ", word);
         return false;
     }
@@ -285,9 +252,8 @@ fn is_path(rt: &HostRuntime, i: usize) -> bool {
         console::complain(rt, b"missing argument: ", b"log");
         return false;
     }
-    let mut path = [0u8; PATH_ROOM];
-    let taken = console::argument(rt, i, &mut path);
-    if taken.failed {
+    let mut buf = [0u8; PATH_ROOM];
+    if console::argument(rt, i, &mut buf).is_none() {
         console::complain(rt, b"argument too long: ", b"log");
         return false;
     }
@@ -296,59 +262,47 @@ fn is_path(rt: &HostRuntime, i: usize) -> bool {
 
 // Whether a word is known and argument i is a partner for it; one that is not has its line.
 fn is_pair(rt: &HostRuntime, asked: &[u8], i: usize) -> bool {
-    if asked == b"name".as_slice() {
-        return is_name(rt, i, b"name");
+    match Command::from_word(asked) {
+        Some(Command::Name) => is_name(rt, i, b"name"),
+        Some(Command::Drop) => is_name(rt, i, b"drop"),
+        Some(Command::Return) => is_name(rt, i, b"return"),
+        Some(Command::Log) => is_path(rt, i),
+        None => {
+            console::print(rt, unknown_word(asked));
+            false
+        }
     }
-    if asked == b"drop".as_slice() {
-        return is_name(rt, i, b"drop");
-    }
-    if asked == b"return".as_slice() {
-        return is_name(rt, i, b"return");
-    }
-    if asked == b"log".as_slice() {
-        return is_path(rt, i);
-    }
-    console::print(rt, unknown_word(asked));
-    false
 }
 
 // The same for the word at i.
 fn is_pair_at(rt: &HostRuntime, i: usize, partner: usize) -> bool {
-    let mut word = [0u8; ARGUMENT_ROOM];
-    let taken = console::argument(rt, i, &mut word);
-    let n = taken.n;
-    is_pair(rt, &word[..n], partner)
+    let mut buf = [0u8; ARGUMENT_ROOM];
+    let word = console::argument(rt, i, &mut buf).unwrap_or(&[]);
+    is_pair(rt, word, partner)
 }
 
 // Whether all words after the log are pairs; the first that are none have their line.
 fn are_pairs(rt: &HostRuntime, count: usize) -> bool {
-    let mut left = words_after(count);
-    while 0 < left {
-        let i = count - left;
+    let words = words_after(count);
+    for pair in 0..words.div_ceil(PAIR) {
+        let i = FIRST_PAIR + PAIR * pair;
         if !is_pair_at(rt, i, i + 1) {
             return false;
         }
-        if left < PAIR {
-            return false;
-        }
-        left -= PAIR;
     }
-    true
+    words % PAIR == 0
 }
 
 // The log that the second argument names, and the words after it.
 fn take_path(rt: &HostRuntime, marks: &[u8], count: usize) {
-    let mut path = [0u8; PATH_ROOM];
-    let taken = console::argument(rt, 2, &mut path);
-    if taken.failed {
+    let mut buf = [0u8; PATH_ROOM];
+    let Some(path) = console::argument(rt, 2, &mut buf) else {
         console::complain(rt, b"argument too long: ", b"log");
         return;
+    };
+    if are_pairs(rt, count) {
+        read_and_follow(rt, marks, path, count);
     }
-    if !are_pairs(rt, count) {
-        return;
-    }
-    let n = taken.n;
-    read_and_follow(rt, marks, &path[..n], count);
 }
 
 fn main(rt: HostRuntime) {
@@ -367,11 +321,9 @@ fn main(rt: HostRuntime) {
         console::complain(&rt, b"missing argument: ", b"log");
         return;
     }
-    let mut marks = [0u8; ARGUMENT_ROOM];
-    let taken = console::read_marks(&rt, &mut marks);
-    if taken.failed {
+    let mut buf = [0u8; ARGUMENT_ROOM];
+    let Some(marks) = console::read_marks(&rt, &mut buf) else {
         return;
-    }
-    let n = taken.n;
-    take_path(&rt, &marks[..n], count);
+    };
+    take_path(&rt, marks, count);
 }

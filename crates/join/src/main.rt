@@ -5,9 +5,7 @@
 ghost use Rattle.std.specs.Prelude.{◌≤◌, length};
 ghost use Rattle.output.specs.Texts.{line_room};
 ghost use Rattle.output.specs.Working.Ready.{ReadyForComplaint};
-ghost use Rattle.console.specs.Counts.{IsPrefixLen};
 
-use console::{Taken, UNNUMBERED};
 use header::{LONGEST_SHEET, SHEET_ROOM};
 use output::{PATH_ROOM, complaint, refused_text};
 use std::io::Write;
@@ -34,64 +32,46 @@ fn show(rt: &HostRuntime, first: &[u8], second: &[u8]) {
 }
 
 // That the file of this name cannot be read, by the system's number of the error.
-fn tell(rt: &HostRuntime, which: &[u8], path: &[u8], error: i32)
+fn tell(rt: &HostRuntime, which: &[u8], path: &[u8], error: Option<i32>)
     requires { length which.now ≤ line_room }
 {
     console::print_to(&mut rt.stderr(), console::unreadable(which, path, error));
 }
 
-// The sheet in the file of this name; one that cannot be read has its line.
-fn read_file(rt: &HostRuntime, which: &[u8], path: &[u8], sheet: &mut [u8]) -> Taken
+// The sheet in the file of this name, at the start of the buffer; one that cannot be read has its line.
+fn read_file<'a>(rt: &HostRuntime, which: &[u8], path: &[u8], buf: &'a mut [u8]) -> Option<&'a [u8]>
     requires { length which.now ≤ line_room }
-    ensures { IsPrefixLen result.n sheet.new }
 {
-    match console::open(rt, path) {
-        Ok(mut file) => {
-            let taken = console::read_all(&mut file, sheet);
-            if taken.failed {
-                tell(rt, which, path, taken.error);
-            }
-            taken
-        }
-        Err(error) => {
-            tell(rt, which, path, error);
-            Taken {
-                n: 0,
-                failed: true,
-                error,
-            }
-        }
-    }
+    let error = match console::open(rt, path) {
+        Ok(mut file) => match console::read_all(&mut file, buf) {
+            Ok(n) => return Some(&buf[..n]),
+            Err(broken) => broken.error,
+        },
+        Err(error) => error,
+    };
+    tell(rt, which, path, error);
+    None
 }
 
 // The sheet in the file that argument i names; one that cannot be read has its line.
-fn read_sheet(rt: &HostRuntime, i: usize, which: &[u8], sheet: &mut [u8]) -> Taken
+fn read_sheet<'a>(rt: &HostRuntime, i: usize, which: &[u8], buf: &'a mut [u8]) -> Option<&'a [u8]>
     requires { length which.now ≤ line_room }
-    ensures { IsPrefixLen result.n sheet.new }
 {
-    let mut path = [0u8; PATH_ROOM];
-    let named = console::argument(rt, i, &mut path);
-    if named.failed {
+    let mut room = [0u8; PATH_ROOM];
+    let Some(path) = console::argument(rt, i, &mut room) else {
         complain(rt, b"argument too long: ", which);
-        return Taken {
-            n: 0,
-            failed: true,
-            error: UNNUMBERED,
-        };
-    }
-    let n = named.n;
-    read_file(rt, which, &path[..n], sheet)
+        return None;
+    };
+    read_file(rt, which, path, buf)
 }
 
 // The first sheet with the one that the second argument names.
 fn join_second(rt: &HostRuntime, first: &[u8]) {
-    let mut second = [0u8; SHEET_ROOM];
-    let taken = read_sheet(rt, 2, b"second sheet", &mut second);
-    if taken.failed {
+    let mut buf = [0u8; SHEET_ROOM];
+    let Some(second) = read_sheet(rt, 2, b"second sheet", &mut buf) else {
         return;
-    }
-    let n = taken.n;
-    show(rt, first, &second[..n]);
+    };
+    show(rt, first, second);
 }
 
 fn main(rt: HostRuntime) {
@@ -111,11 +91,9 @@ fn main(rt: HostRuntime) {
         complain(&rt, b"missing argument: ", b"second sheet");
         return;
     }
-    let mut first = [0u8; SHEET_ROOM];
-    let taken = read_sheet(&rt, 1, b"first sheet", &mut first);
-    if taken.failed {
+    let mut buf = [0u8; SHEET_ROOM];
+    let Some(first) = read_sheet(&rt, 1, b"first sheet", &mut buf) else {
         return;
-    }
-    let n = taken.n;
-    join_second(&rt, &first[..n]);
+    };
+    join_second(&rt, first);
 }

@@ -1,7 +1,8 @@
 -- Texts put into a buffer one after the other are one text, and the bytes up to its end are what stood before it, and the text. Assumes nothing.
-use Prim.Native.Nat.{ℕ, ◌+◌, ◌/◌, ◌%◌, ◌≤◌, ◌<◌}
-use mathlib.Core.Path.{◌≡◌, refl, ◌∙◌}
-use mathlib.Core.List.{List, [], ◌∷◌, ◌++◌}
+use Prim.Native.Nat.{ℕ, ◌+◌, ◌-◌, ◌/◌, ◌%◌, ◌≤◌, ◌<◌}
+use mathlib.Core.Path.{◌≡◌, refl, sym, ◌∙◌}
+use mathlib.Core.List.{List, [], ◌∷◌, ◌++◌, append_assoc}
+use borrow.Rule.Slice.PartMut.{put_mid, Post-is}
 use native.Mathlib.Numerals.{add-one}
 use native.Mathlib.Omega.{arith}
 use lib.ListN.{length, take, drop, set, get_or, length-append}
@@ -15,6 +16,15 @@ use Rattle.lines.specs.Lines.{Room, Puts}
 -- a byte
 pub puts_byte : (b : List ℕ) (at x : ℕ) → Puts b (set b at x) at (at + 1) (x ∷ [])
 puts_byte b at x = record { ends = refl; stored = refl }
+
+-- the bytes of a text, copied into their part of the buffer
+pub puts_copied : (b text bytes : List ℕ) (at : ℕ) → Room b at text → bytes ≡ text
+    → Puts b (put_mid at (at + length text - at) b bytes) at (at + length text) text
+puts_copied b text bytes at room e =
+    record {
+      ends = refl;
+      stored = rw (e, Post-is at (at + length text) b (omega arith)) (sym (sets-eq text b at room.fits ∙ append_assoc (take at b) text (drop (at + length text) b)));
+    }
 
 -- one text after another
 pub puts_then : {a b c : List ℕ} {at mid end : ℕ} {x y : List ℕ} → Puts a b at mid x → Puts b c mid end y → Puts a c at end (x ++ y)

@@ -22,12 +22,9 @@ pub fn put(out: &mut [u8], at: usize, bytes: &[u8]) -> usize
     requires { Room out.old at bytes.now }
     ensures { Puts out.old out.new at result bytes.now }
 {
-    let mut j: usize = 0;
-    while j < bytes.len() {
-        out[at + j] = bytes[j];
-        j += 1;
-    }
-    at + j
+    let end = at + bytes.len();
+    out[at..end].copy_from_slice(bytes);
+    end
 }
 
 // The digit of each mark.
@@ -35,12 +32,10 @@ fn put_marks(out: &mut [u8], at: usize, marks: &[u8]) -> usize
     requires { Room out.old at (mark_digits marks.now) }
     ensures { Puts out.old out.new at result (mark_digits marks.now) }
 {
-    let mut j: usize = 0;
-    while j < marks.len() {
+    for j in 0..marks.len() {
         out[at + j] = ZERO + marks[j] % MARK_BASE;
-        j += 1;
     }
-    at + j
+    at + marks.len()
 }
 
 // The digits of a number: those of its quotient by ten, then the rest.

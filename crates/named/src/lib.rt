@@ -26,13 +26,11 @@ fn name_twice(names: Names) -> bool
 {
     let count = names.count;
     let entries = names.entries;
-    let mut j: usize = 0;
-    while j < count {
+    for j in 0..count {
         let held = entries[j];
         if slot_of(names, held.name) < j {
             return true;
         }
-        j += 1;
     }
     false
 }
@@ -54,14 +52,12 @@ fn some_place_broken(run: Run, names: Names) -> bool
 {
     let count = names.count;
     let entries = names.entries;
-    let mut j: usize = 0;
-    while j < count {
+    for j in 0..count {
         let held = entries[j];
         let place = held.place;
         if breaks(run, place) {
             return true;
         }
-        j += 1;
     }
     false
 }

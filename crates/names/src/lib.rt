@@ -56,13 +56,11 @@ pub fn slot_of(names: Names, name: u8) -> usize
 {
     let count = names.count;
     let entries = names.entries;
-    let mut j: usize = 0;
-    while j < count {
+    for j in 0..count {
         let held = entries[j];
         if held.name == name {
             return j;
         }
-        j += 1;
     }
     count
 }
@@ -88,11 +86,8 @@ pub fn take_out(names: Names, slot: usize) -> Names
 {
     let last = names.count - 1;
     let mut entries = names.entries;
-    let mut j = slot;
-    while j < last {
-        let next = entries[j + 1];
-        entries[j] = next;
-        j += 1;
+    for j in slot..last {
+        entries[j] = entries[j + 1];
     }
     entries[last] = no_held();
     Names {

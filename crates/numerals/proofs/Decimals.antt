@@ -15,7 +15,7 @@ use Rattle.lists.specs.Lists.{some}
 use Rattle.lists.proofs.Lists.{and_holds, some_none, some_fails}
 use Rattle.numerals.specs.Digits.{zero_code, nine_code, base, no_digit, is_number, number_to, word_most, NumberOf}
 use Rattle.numerals.specs.Decimal.{digit, decimal_by, decimal, word_digits, Reads}
-use Rattle.numerals.specs.declared.Number.{Number}
+use Rattle.std.specs.Prelude.{Option, Some}
 use Rattle.numerals.proofs.Texts.{digit_is, digit_least, digit_most, none_such, within_word}
 
 -- a number of one digit
@@ -154,10 +154,10 @@ decimal_reads n =
     }
 
 -- so that `to_number` gives back each number of 64 bits
-pub decimal_read : (n : ℕ) (r : Number) → n ≤ word_most → NumberOf (decimal n) r → (r.failed ≡ false) × (r.value ≡ n)
+pub decimal_read : (n : ℕ) (r : Option ℕ) → n ≤ word_most → NumberOf (decimal n) r → r ≡ Some n
 decimal_read n r h given =
     let reads = decimal_reads n in
-    (given.fails ∙ rw reads.number refl, given.value reads.number ∙ rw reads.value (within_word n h))
+    given.value reads.number ∙ ap Some (rw reads.value (within_word n h))
 
 -- numbers with the same text are the same
 pub decimal_once : (m n : ℕ) → decimal m ≡ decimal n → m ≡ n

@@ -1,7 +1,6 @@
 -- The marks of a text, one digit a task, and the number of a text.
-use Rattle.std.specs.Prelude.{ℕ, zero, suc, ◌+◌, ◌-◌, ◌*◌, ◌<◌, ◌^◌, ◌≡◌, Bool, true, false, cond, not, ◌||◌, ◌&&◌, List, ltb, eqb, length, get_or}
+use Rattle.std.specs.Prelude.{ℕ, zero, suc, ◌+◌, ◌-◌, ◌*◌, ◌<◌, ◌^◌, ◌≡◌, Bool, true, false, Option, Some, None, cond, not, ◌||◌, ◌&&◌, List, ltb, eqb, length, get_or}
 use Rattle.lists.specs.Lists.{some}
-use Rattle.numerals.specs.declared.Number.{Number}
 
 -- the text codes of 0 and 9
 abbrev pub zero_code : ℕ
@@ -43,7 +42,7 @@ word_most = 2 ^ 64 - 1
 unfoldable pub in_word : ℕ → ℕ
 in_word x = cond (ltb word_most x) word_most x
 
--- the number of a text, which fails where it is none
-pub record NumberOf (text : List ℕ) (r : Number) : Type 0 where
-  pub fails : r.failed ≡ not (is_number text)
-  pub value : is_number text ≡ true → r.value ≡ in_word (number_to text (length text))
+-- the number of a text, or none where it is no number
+pub record NumberOf (text : List ℕ) (r : Option ℕ) : Type 0 where
+  pub none : is_number text ≡ false → r ≡ None
+  pub value : is_number text ≡ true → r ≡ Some (in_word (number_to text (length text)))

@@ -7,30 +7,14 @@ ghost use Rattle.numerals.specs.Digits.{base, no_digit, MarksOf, number_to, in_w
 
 const ZERO: u8 = b'0';
 
-const NINE: u8 = b'9';
-
 // Digits are decimal.
 const BASE: u64 = 10;
-
-// The greatest number of 64 bits.
-const WORD_MOST: u64 = 18_446_744_073_709_551_615;
 
 // Whether every byte of the text is a digit.
 fn is_digits(text: &[u8]) -> bool
     ensures { result ≡ not (some (length text.now) (no_digit text.now)) }
 {
-    let mut j: usize = 0;
-    while j < text.len() {
-        let c = text[j];
-        if c < ZERO {
-            return false;
-        }
-        if NINE < c {
-            return false;
-        }
-        j += 1;
-    }
-    true
+    text.iter().all(|c| c.is_ascii_digit())
 }
 
 // The marks that a text of digits gives, in its place.
@@ -38,10 +22,8 @@ fn convert(text: &mut [u8])
     requires { some (length text.old) (no_digit text.old) ≡ false }
     ensures { MarksOf text.old text.new true }
 {
-    let mut j: usize = 0;
-    while j < text.len() {
+    for j in 0..text.len() {
         text[j] -= ZERO;
-        j += 1;
     }
 }
 
@@ -56,23 +38,12 @@ pub fn to_marks(text: &mut [u8]) -> bool
     false
 }
 
-// A number read from a text; it failed where the text is none.
-#[derive(Clone, Copy)]
-pub struct Number {
-    pub value: u64,
-    pub failed: bool,
-}
-
 // The number n with one digit more, or the greatest of 64 bits where it passes that.
 fn with_digit(n: u64, digit: u8) -> u64
     requires { digit < base }
     ensures { result ≡ in_word (base * n + digit) }
 {
-    let digit = digit as u64;
-    if (WORD_MOST - digit) / BASE < n {
-        return WORD_MOST;
-    }
-    BASE * n + digit
+    n.saturating_mul(BASE).saturating_add(digit as u64)
 }
 
 // The number that a text of digits gives.
@@ -81,32 +52,18 @@ fn value_of(text: &[u8]) -> u64
     ensures { result ≡ in_word (number_to text.now (length text.now)) }
 {
     let mut n: u64 = 0;
-    let mut j: usize = 0;
-    while j < text.len() {
-        n = with_digit(n, text[j] - ZERO);
-        j += 1;
+    for c in text {
+        n = with_digit(n, c - ZERO);
     }
     n
 }
 
 // The number that a text gives; an empty text is none, nor is one with a byte that is no digit.
-pub fn to_number(text: &[u8]) -> Number
+pub fn to_number(text: &[u8]) -> Option<u64>
     ensures { NumberOf text.now result }
 {
-    if text.len() == 0 {
-        return Number {
-            value: 0,
-            failed: true,
-        };
+    if text.is_empty() || !is_digits(text) {
+        return None;
     }
-    if !is_digits(text) {
-        return Number {
-            value: 0,
-            failed: true,
-        };
-    }
-    Number {
-        value: value_of(text),
-        failed: false,
-    }
+    Some(value_of(text))
 }

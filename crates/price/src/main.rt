@@ -17,13 +17,11 @@ fn text_of(sheet: &[u8], marks: &[u8]) -> Text
 
 // The price of the marks under the sheet on standard input.
 fn price(rt: &HostRuntime, marks: &[u8]) {
-    let mut sheet = [0u8; SHEET_ROOM];
-    let taken = console::read_sheet(rt, &mut sheet);
-    if taken.failed {
+    let mut buf = [0u8; SHEET_ROOM];
+    let Some(sheet) = console::read_sheet(rt, &mut buf) else {
         return;
-    }
-    let n = taken.n;
-    console::print(rt, text_of(&sheet[..n], marks));
+    };
+    console::print(rt, text_of(sheet, marks));
 }
 
 fn main(rt: HostRuntime) {
@@ -38,11 +36,9 @@ fn main(rt: HostRuntime) {
         console::complain(&rt, b"missing argument: ", b"marks");
         return;
     }
-    let mut marks = [0u8; ARGUMENT_ROOM];
-    let taken = console::read_marks(&rt, &mut marks);
-    if taken.failed {
+    let mut buf = [0u8; ARGUMENT_ROOM];
+    let Some(marks) = console::read_marks(&rt, &mut buf) else {
         return;
-    }
-    let n = taken.n;
-    price(&rt, &marks[..n]);
+    };
+    price(&rt, marks);
 }

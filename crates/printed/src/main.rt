@@ -25,11 +25,9 @@ fn main(rt: HostRuntime) {
     ) {
         return;
     }
-    let mut sheet = [0u8; SHEET_ROOM];
-    let taken = console::read_sheet(&rt, &mut sheet);
-    if taken.failed {
+    let mut buf = [0u8; SHEET_ROOM];
+    let Some(sheet) = console::read_sheet(&rt, &mut buf) else {
         return;
-    }
-    let n = taken.n;
-    console::print(&rt, text_of(&sheet[..n]));
+    };
+    console::print(&rt, text_of(sheet));
 }

@@ -1,10 +1,15 @@
 -- What 21 leaves of a state: its values pass 3 and 7 to 10, and its place keeps the rules. Each test that fails is read back as its fact.
 -- Assumes nothing.
+use Rattle.std.specs.Prelude.{Result, Ok, Err}
+use Rattle.std.specs.Result.{is_err}
+use Rattle.refusals.specs.Checks.{number, told}
+use Rattle.refusals.specs.declared.Refusal.{Refusal}
+use Rattle.refusals.proofs.Checks.{number_positive}
 use Prim.Native.Nat.{ℕ, zero, suc, ◌≤◌}
 use mathlib.Core.Path.{◌≡◌, refl}
 use mathlib.Core.Bool.{false, not}
 use mathlib.Core.List.{List}
-use borrow.Author.Tests.{ltb-false, eqb-true, not-false, le-ltb, eq-eqb}
+use borrow.Author.Tests.{ltb-false, eqb-true, not-false, le-ltb, eq-eqb, ne_eqb}
 use native.Mathlib.Omega.{arith}
 use lib.Dec.{ltb, eqb}
 use lib.Seq.{get_or-take}
@@ -24,6 +29,11 @@ use Rattle.rules.specs.Rules.{total_limit, total_of, marks_in, marks_read, value
 use Rattle.rules.specs.Working.Sound.{SoundRun}
 use Rattle.state.specs.declared.Place.{Place}
 use Rattle.state.specs.declared.Run.{Run}
+
+-- whether a check refuses, by what it tells
+pub refused_told : {A : Type 0} (r : Result A Refusal) → is_err r ≡ not (eqb (told r) 0)
+refused_told (Ok a) = refl
+refused_told (Err refusal) = rw (ne_eqb (number refusal) 0 (λ e. omega (arith, number_positive refusal))) refl
 
 pub job_numbered : (job : Job) → Numbered (job_conditions job)
 unfolding has distinct

@@ -16,24 +16,16 @@ use positions::mark_at;
 use refusals::Refusal;
 use state::{Place, Run, Sums};
 
-// The sums together pass the limit. Each is compared alone before it is added, so that the total cannot wrap.
+// The sums together pass the limit. A total past 64 bits counts as the greatest of them, so that it cannot wrap.
 pub fn over_total(sums: Sums) -> bool
     ensures { result ≡ over_total sums }
 {
-    let parts = [
-        sums.kept,
-        sums.redone,
-        sums.verify,
-        sums.saves,
-        sums.recovery,
-    ];
-    let mut total: u64 = 0;
-    for part in parts {
-        if Run::MAX_TOTAL < part {
-            return true;
-        }
-        total += part;
-    }
+    let total = sums
+        .kept
+        .saturating_add(sums.redone)
+        .saturating_add(sums.verify)
+        .saturating_add(sums.saves)
+        .saturating_add(sums.recovery);
     Run::MAX_TOTAL < total
 }
 
@@ -84,18 +76,12 @@ fn check_values(run: Run) -> Result<(), Refusal>
 pub fn broken(run: Run) -> bool
     ensures { result ≡ broken run }
 {
-    if check_values(run).is_err() {
-        return true;
-    }
-    broken_place(run)
+    check_values(run).is_err() || broken_place(run)
 }
 
 // 22: position n and nothing awaited.
 pub fn finished(tasks: usize, place: Place) -> bool
     ensures { result ≡ finished_at tasks place }
 {
-    if place.position != tasks {
-        return false;
-    }
-    place.awaiting == 0
+    place.position == tasks && place.awaiting == 0
 }

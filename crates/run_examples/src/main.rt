@@ -3,8 +3,8 @@
 
 ghost use Rattle.std.specs.Prelude.{◌≤◌, length};
 ghost use Rattle.output.specs.Texts.{longest_word};
-ghost use Rattle.console.specs.Counts.{IsPrefixLen};
 
+use console::Broken;
 use header::SHEET_ROOM;
 use output::{numbered_text, price_text};
 use std::io::Write;
@@ -13,14 +13,15 @@ use units::TASK_LIMIT;
 // More than the log of the example has.
 const LOG_ROOM: usize = 100;
 
-// The bytes of a file at the front of the buffer, and how many; one that cannot be read has none.
-fn read_file(rt: &HostRuntime, name: &[u8], buffer: &mut [u8]) -> usize
-    ensures { IsPrefixLen result buffer.new }
-{
-    match console::open(rt, name) {
-        Ok(mut file) => console::read_all(&mut file, buffer).n,
+// The bytes of a file, at the front of the buffer; one that cannot be read has none.
+fn read_file<'a>(rt: &HostRuntime, name: &[u8], buf: &'a mut [u8]) -> &'a [u8] {
+    let n = match console::open(rt, name) {
+        Ok(mut file) => match console::read_all(&mut file, buf) {
+            Ok(n) | Err(Broken { n, .. }) => n,
+        },
         Err(_) => 0,
-    }
+    };
+    &buf[..n]
 }
 
 // A word and its number.
@@ -32,10 +33,10 @@ fn numbered(rt: &HostRuntime, word: &[u8], n: u64)
 
 // The least time of the sheet in the file, or its refusal.
 fn plan(rt: &HostRuntime, name: &[u8]) {
-    let mut sheet = [0u8; SHEET_ROOM];
-    let n = read_file(rt, name, &mut sheet);
+    let mut buf = [0u8; SHEET_ROOM];
+    let sheet = read_file(rt, name, &mut buf);
     let mut marks = [0u8; TASK_LIMIT];
-    let answer = planning::plan(&sheet[..n], &mut marks);
+    let answer = planning::plan(sheet, &mut marks);
     let _ = rt.stdout().write_all(name);
     let _ = rt.stdout().write_all(b": ");
     console::print(rt, price_text(answer));
@@ -59,11 +60,11 @@ fn follow(rt: &HostRuntime, sheet: &[u8], log: &[u8]) {
 }
 
 fn run_of_a(rt: &HostRuntime) {
-    let mut sheet = [0u8; SHEET_ROOM];
-    let n = read_file(rt, b"a", &mut sheet);
-    let mut log = [0u8; LOG_ROOM];
-    let k = read_file(rt, b"log", &mut log);
-    follow(rt, &sheet[..n], &log[..k]);
+    let mut sheet_buf = [0u8; SHEET_ROOM];
+    let sheet = read_file(rt, b"a", &mut sheet_buf);
+    let mut log_buf = [0u8; LOG_ROOM];
+    let log = read_file(rt, b"log", &mut log_buf);
+    follow(rt, sheet, log);
 }
 
 fn main(rt: HostRuntime) {

@@ -41,14 +41,7 @@ pub struct Run {
 fn entries(n: usize, length: usize) -> usize
     ensures { Entries n length result }
 {
-    let mut most = TASK_LIMIT;
-    if n < most {
-        most = n;
-    }
-    if length < most {
-        most = length;
-    }
-    most
+    TASK_LIMIT.min(n).min(length)
 }
 
 // The weights of n tasks, and 0 past them.
@@ -57,10 +50,8 @@ fn first_weights(weights: [u32; TASK_LIMIT], n: usize) -> [u32; TASK_LIMIT]
 {
     let most = entries(n, TASK_LIMIT);
     let mut held = [0u32; TASK_LIMIT];
-    let mut j: usize = 0;
-    while j < most {
+    for j in 0..most {
         held[j] = weights[j];
-        j += 1;
     }
     held
 }
@@ -71,10 +62,8 @@ fn first_marks(marks: &[u8], n: usize) -> [u8; TASK_LIMIT]
 {
     let most = entries(n, marks.len());
     let mut held = [0u8; TASK_LIMIT];
-    let mut j: usize = 0;
-    while j < most {
+    for j in 0..most {
         held[j] = marks[j];
-        j += 1;
     }
     held
 }

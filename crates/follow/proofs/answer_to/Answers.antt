@@ -1,50 +1,65 @@
--- The call by the word.
-use Rattle.std.proofs.Common.{◌≡◌, ℕ, List, Bool, eqb, refl, sym, subst, ◌∙◌, true≢false}
-use Rattle.std.specs.Bool.{Decides}
-use Rattle.std.specs.Cmp.Lexicographic.{pointwise}
-use Rattle.std.proofs.lemmas.Bool.Decides.{Decides-eqb}
-use Rattle.std.proofs.lemmas.Slice.Eq.{slice_eq-Decides}
+-- The call by the command of the word.
+use Rattle.std.proofs.Common.{refl, rules}
 use Rattle.naming.specs.Turns.{call_of}
 use Rattle.naming.specs.Turns.Call.{named, dropped, returned}
-use Rattle.output.specs.Words.{name_word, drop_word}
-use Rattle.follow.proofs.Turns.{name_drop, name_return, drop_return}
 use Rattle.follow.proofs.answer_to.Goals as goal
 
--- a word that is compared with a known one
-compared : (word known asked : List ℕ) (r : Bool) → known ≡ asked → r ≡ pointwise eqb word known → Decides r (word ≡ asked)
-compared word known asked r e h = subst (λ l. Decides r (word ≡ l)) e (slice_eq-Decides Decides-eqb word known r h)
-
-pub returns-then-eq : goal.returns-then-eq
+pub returns-in-Some-Name : goal.returns-in-Some-Name
 unfolding call_of
-returns-then-eq c =
-    let is = (compared _ _ name_word _ c.as_slice.ensures c.eq.ensures).0 c.if-eq.true in
+returns-in-Some-Name c =
+    let commands = c.from_word.ensures in
     record {
       call = named c.args.name;
       answer = c.name.ensures;
       names = λ _. refl;
-      drops = λ e. absurd (name_drop (sym is ∙ e));
-      returns = λ e. absurd (name_return (sym is ∙ e));
+      drops = λ e. absurd (search (rules, commands.drops.1 e, c.in-Some-Name.is, c.in-Some-Name.field-0-is));
+      returns = λ e. absurd (search (rules, commands.returns.1 e, c.in-Some-Name.is, c.in-Some-Name.field-0-is));
     }
 
-pub returns-then-eq-2 : goal.returns-then-eq-2
+pub returns-in-Some-Drop : goal.returns-in-Some-Drop
 unfolding call_of
-returns-then-eq-2 c =
-    let is = (compared _ _ drop_word _ c.as_slice-2.ensures c.eq-2.ensures).0 c.if-eq-2.true in
+returns-in-Some-Drop c =
+    let commands = c.from_word.ensures in
     record {
       call = dropped c.args.name;
       answer = c.drop_name.ensures;
-      names = λ e. absurd (name_drop (sym e ∙ is));
+      names = λ e. absurd (search (rules, commands.names.1 e, c.in-Some-Drop.is, c.in-Some-Drop.field-0-is));
       drops = λ _. refl;
-      returns = λ e. absurd (drop_return (sym is ∙ e));
+      returns = λ e. absurd (search (rules, commands.returns.1 e, c.in-Some-Drop.is, c.in-Some-Drop.field-0-is));
     }
 
-pub returns : goal.returns
+pub returns-in-Some-Return : goal.returns-in-Some-Return
 unfolding call_of
-returns c =
+returns-in-Some-Return c =
+    let commands = c.from_word.ensures in
     record {
       call = returned c.args.name;
       answer = c.return_to.ensures;
-      names = λ e. absurd (true≢false (sym ((compared _ _ name_word _ c.as_slice.ensures c.eq.ensures).1 e) ∙ c.if-eq.false));
-      drops = λ e. absurd (true≢false (sym ((compared _ _ drop_word _ c.as_slice-2.ensures c.eq-2.ensures).1 e) ∙ c.if-eq-2.false));
+      names = λ e. absurd (search (rules, commands.names.1 e, c.in-Some-Return.is, c.in-Some-Return.field-0-is));
+      drops = λ e. absurd (search (rules, commands.drops.1 e, c.in-Some-Return.is, c.in-Some-Return.field-0-is));
+      returns = λ _. refl;
+    }
+
+pub returns-in-Some-Log : goal.returns-in-Some-Log
+unfolding call_of
+returns-in-Some-Log c =
+    let commands = c.from_word.ensures in
+    record {
+      call = returned c.args.name;
+      answer = c.return_to-in-Some-Log.ensures;
+      names = λ e. absurd (search (rules, commands.names.1 e, c.in-Some-Log.is, c.in-Some-Log.field-0-is));
+      drops = λ e. absurd (search (rules, commands.drops.1 e, c.in-Some-Log.is, c.in-Some-Log.field-0-is));
+      returns = λ _. refl;
+    }
+
+pub returns-in-None : goal.returns-in-None
+unfolding call_of
+returns-in-None c =
+    let commands = c.from_word.ensures in
+    record {
+      call = returned c.args.name;
+      answer = c.return_to-in-None.ensures;
+      names = λ e. absurd (search (rules, commands.names.1 e, c.in-None.is));
+      drops = λ e. absurd (search (rules, commands.drops.1 e, c.in-None.is));
       returns = λ _. refl;
     }

@@ -3,14 +3,14 @@ use Rattle.std.proofs.Common.{arith}
 use Rattle.follow.proofs.Turns.{log_last, log_then}
 use Rattle.follow.proofs.follow.Goals as goal
 
-pub returns-then-led : goal.returns-then-led
-returns-then-led c =
+pub returns-in-Err : goal.returns-in-Err
+returns-in-Err c =
     let number = rw c.start-started.ensures at c.if-started-ne-ACCEPTED.false in
-    let logged = rw (c.start-started.ensures, c.none-names.ensures) at c.follow_log-led.ensures in
-    record { refused = λ h. absurd (omega (arith, number)); followed = λ _. log_last logged c.if-led.true }
+    let logged = rw (c.start-started.ensures, c.none-names.ensures, c.in-Err.is) at c.follow_log.ensures in
+    record { refused = λ h. absurd (omega (arith, number)); followed = λ _. log_last logged }
 
-pub returns : goal.returns
-returns c =
+pub returns-in-Ok : goal.returns-in-Ok
+returns-in-Ok c =
     let number = rw c.start-started.ensures at c.if-started-ne-ACCEPTED.false in
-    let logged = rw (c.start-started.ensures, c.none-names.ensures) at c.follow_log-led.ensures in
-    record { refused = λ h. absurd (omega (arith, number)); followed = λ _. log_then logged c.if-led.false c.call_in_turn.ensures }
+    let logged = rw (c.start-started.ensures, c.none-names.ensures, c.in-Ok.is) at c.follow_log.ensures in
+    record { refused = λ h. absurd (omega (arith, number)); followed = λ _. log_then logged c.call_in_turn.ensures }

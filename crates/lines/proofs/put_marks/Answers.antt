@@ -1,4 +1,5 @@
-use Prim.Native.Nat.{◌-◌}
+use mathlib.Core.Path.{◌≡◌}
+use lib.ListN.{length}
 use native.Mathlib.Omega.{arith}
 use Rattle.lines.proofs.Lines.{length_digits, digit_at}
 use Rattle.lines.proofs.Buffers.{puts_length, putting_none, putting_more, putting_all}
@@ -7,23 +8,11 @@ use Rattle.lines.proofs.put_marks.Goals as goal
 pub loop-j-init : goal.loop-j-init
 loop-j-init c = putting_none _ _ _
 
-pub bounds-marks-j : goal.bounds-marks-j
-bounds-marks-j c = omega arith
-
-pub overflow_add-out : goal.overflow_add-out
-overflow_add-out c = omega arith
-
 pub overflow_add-out-in-loop-j : goal.overflow_add-out-in-loop-j
 overflow_add-out-in-loop-j c = omega (arith, length_digits c.args.marks.now)
 
 pub bounds-out-at : goal.bounds-out-at
 bounds-out-at c = omega (arith, length_digits c.args.marks.now, puts_length c.loop-j.invariant.front)
-
-pub overflow_add-j : goal.overflow_add-j
-overflow_add-j c = omega arith
-
-pub loop-j-smaller : goal.loop-j-smaller
-loop-j-smaller c = omega arith
 
 pub loop-j-preserved : goal.loop-j-preserved
 loop-j-preserved c = putting_more _ (omega (arith, length_digits c.args.marks.now)) (digit_at _ _ (omega arith)) c.loop-j.invariant
@@ -35,4 +24,6 @@ pub shape_of-out : goal.shape_of-out
 shape_of-out c = puts_length c.loop-j.invariant.front
 
 pub returns : goal.returns
-returns c = putting_all (omega (arith, length_digits c.args.marks.now)) c.loop-j.invariant
+returns c =
+    let e : c.loop-j.j ≡ length c.args.marks.now = omega arith in
+    putting_all (omega (arith, length_digits c.args.marks.now)) (rw e at c.loop-j.invariant)

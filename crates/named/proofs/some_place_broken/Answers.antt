@@ -32,12 +32,6 @@ returns-then-breaks c =
     let same = ap (broken_place run.job (marks_in run)) (place_held _ names.entries _ test.true) ∙ sym c.breaks.ensures in
     kept_breaks _ _ _ _ loop.invariant (rw few test.true) (same ∙ c.if-breaks.true)
 
-pub overflow_add-j : goal.overflow_add-j
-overflow_add-j c = omega (arith, c.requires.few)
-
-pub loop-j-smaller : goal.loop-j-smaller
-loop-j-smaller c = omega arith
-
 pub loop-j-preserved : goal.loop-j-preserved
 loop-j-preserved c =
     let loop = c.loop-j in

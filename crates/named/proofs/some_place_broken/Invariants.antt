@@ -1,4 +1,4 @@
--- `named::some_place_broken` meets its contract. The loop's invariant: the places passed keep the rules. The measure is what is left of the entries.
+-- `named::some_place_broken` meets its contract. The loop's invariant: the places passed keep the rules.
 -- Assumes nothing.
 use Prim.Native.Nat.{◌-◌}
 use lib.ListN.{take}
@@ -8,6 +8,3 @@ use Rattle.named.proofs.some_place_broken.Given as goal
 
 abbrev pub invariant-loop-j : goal.invariant-loop-j
 invariant-loop-j l = Kept l.run.job (marks_in l.run) (take l.count l.entries) l.j
-
-abbrev pub decreases-loop-j : goal.decreases-loop-j
-decreases-loop-j l = l.count - l.j

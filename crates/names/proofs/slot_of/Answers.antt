@@ -25,12 +25,6 @@ returns-then-held-name c =
     let few = long_held names.count names.entries long c.requires in
     passed_here _ _ _ loop.invariant (rw few test.true) (name_held _ names.entries _ test.true ∙ c.if-held-name.true)
 
-pub overflow_add-j : goal.overflow_add-j
-overflow_add-j c = omega (arith, c.requires)
-
-pub loop-j-smaller : goal.loop-j-smaller
-loop-j-smaller c = omega arith
-
 pub loop-j-preserved : goal.loop-j-preserved
 loop-j-preserved c =
     let loop = c.loop-j in

@@ -17,8 +17,8 @@ loop-j-init c =
     let long : length names.entries ≡ name_limit = omega arith in
     moved_none names.entries _ _ (omega (arith, long, c.requires.few, c.requires.held)) (omega (arith, c.requires.held))
 
-pub overflow_add-next : goal.overflow_add-next
-overflow_add-next c = omega (arith, c.requires.few)
+pub overflow_add-entries : goal.overflow_add-entries
+overflow_add-entries c = omega (arith, c.requires.few)
 
 pub offset_bounds-entries-j : goal.offset_bounds-entries-j
 offset_bounds-entries-j c = omega (arith, c.requires.few)
@@ -31,12 +31,6 @@ offset_bounds-entries-j-in-loop-j c = omega (arith, c.requires.few)
 
 pub bounds-entries-j-in-loop-j : goal.bounds-entries-j-in-loop-j
 bounds-entries-j-in-loop-j c = omega (arith, c.requires.few)
-
-pub overflow_add-j : goal.overflow_add-j
-overflow_add-j c = omega (arith, c.requires.few)
-
-pub loop-j-smaller : goal.loop-j-smaller
-loop-j-smaller c = omega arith
 
 pub loop-j-preserved : goal.loop-j-preserved
 loop-j-preserved c =

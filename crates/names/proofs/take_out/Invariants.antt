@@ -1,10 +1,7 @@
--- `names::take_out` meets its contract. The loop's invariant: the entries before j have moved up. The measure is what is left of the entries. Assumes nothing.
+-- `names::take_out` meets its contract. The loop's invariant: the entries before j have moved up. Assumes nothing.
 use Prim.Native.Nat.{◌-◌}
 use Rattle.names.proofs.Entries.{MovedUp}
 use Rattle.names.proofs.take_out.Given as goal
 
 abbrev pub invariant-loop-j : goal.invariant-loop-j
 invariant-loop-j l = MovedUp l.initial.entries l.slot l.last l.entries l.j
-
-abbrev pub decreases-loop-j : goal.decreases-loop-j
-decreases-loop-j l = l.last - l.j

@@ -11,23 +11,11 @@ use Rattle.numerals.proofs.convert.Goals as goal
 pub loop-j-init : goal.loop-j-init
 loop-j-init c = record { within = omega arith; long = refl; marks = λ i h. absurd (omega arith); left = λ i h. refl }
 
-pub bounds-text-j : goal.bounds-text-j
-bounds-text-j c = omega arith
-
 pub overflow_sub-text : goal.overflow_sub-text
 overflow_sub-text c =
     let pre = c.requires in
     let loop = c.loop-j in
     rw (loop.invariant.left loop.j (omega arith)) (digit_least _ _ (some_fails _ _ (pre) loop.j (omega arith)))
-
-pub bounds-text-j-in-loop-j : goal.bounds-text-j-in-loop-j
-bounds-text-j-in-loop-j c = omega arith
-
-pub overflow_add-j : goal.overflow_add-j
-overflow_add-j c = omega arith
-
-pub loop-j-smaller : goal.loop-j-smaller
-loop-j-smaller c = omega arith
 
 pub loop-j-preserved : goal.loop-j-preserved
 loop-j-preserved c =

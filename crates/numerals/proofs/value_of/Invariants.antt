@@ -1,5 +1,5 @@
--- `numerals::value_of` meets its contract. The loop's invariant: n is the number of the digits before j. The measure is what is left of the text. Assumes nothing.
-use Prim.Native.Nat.{ℕ, ◌-◌, ◌≤◌}
+-- `numerals::value_of` meets its contract. The loop's invariant: n is the number of the digits before c. Assumes nothing.
+use Prim.Native.Nat.{ℕ, ◌≤◌}
 use mathlib.Core.Path.{◌≡◌}
 use mathlib.Core.List.{List}
 use lib.ListN.{length}
@@ -10,8 +10,5 @@ pub record Valued (text : List ℕ) (n j : ℕ) : Type 0 where
   pub within : j ≤ length text
   pub value : n ≡ in_word (number_to text j)
 
-abbrev pub invariant-loop-j : goal.invariant-loop-j
-invariant-loop-j l = Valued l.text l.n l.j
-
-abbrev pub decreases-loop-j : goal.decreases-loop-j
-decreases-loop-j l = length l.text - l.j
+abbrev pub invariant-loop-c : goal.invariant-loop-c
+invariant-loop-c l = Valued l.text l.n l.c-index

@@ -4,7 +4,7 @@ use mathlib.Core.Path.{◌≡◌, sym, ◌∙◌, ap}
 use native.Mathlib.Omega.{arith}
 use lib.ListN.{length}
 use lib.Seq.{length-take-le}
-use Rattle.std.proofs.Common.{Ok}
+use Rattle.std.proofs.Common.{Ok, rules}
 use Rattle.refusals.specs.Numbers
 use Rattle.refusals.specs.Checks.{told}
 use Rattle.refusals.proofs.Refusals.{refused_here, refused_later}
@@ -13,7 +13,6 @@ use Rattle.units.specs.Limits.{task_limit}
 use Rattle.job.specs.Checks.{job_conditions}
 use Rattle.job.proofs.Ranges.{count_range, job_sound}
 use Rattle.rules.proofs.Soundness.{job_numbered}
-use borrow.Author.Rules.{rules}
 use Rattle.rules.proofs.check_values.Goals as goal
 
 pub returns-then-bad_count : goal.returns-then-bad_count
@@ -24,19 +23,21 @@ check_job-requires c = (count_range _ (sym c.bad_count.ensures ∙ c.if-bad_coun
 
 pub returns-in_err-check_job : goal.returns-in_err-check_job
 returns-in_err-check_job c =
+    let failed = c.from_residual.ensures.0 in
     let same : told c.from_residual.result ≡ told c.check_job.result = search rules in
-    refused_later Numbers.bad_count _ c.bad_count.ensures c.if-bad_count.false
-    (refuses_first _ (job_conditions c.args.run.job) _ c.from_residual.ensures.0 (same ∙ c.check_job.ensures))
+    refused_later Numbers.bad_count _ c.bad_count.ensures c.if-bad_count.false (refuses_first _ (job_conditions c.args.run.job) _ failed (same ∙ c.check_job.ensures))
 
 pub slice_bounds-marks-end : goal.slice_bounds-marks-end
 slice_bounds-marks-end c =
-    let l : length c.args.run.marks ≡ task_limit = search rules in
-    omega (arith, count_range c.args.run.job.tasks (sym c.bad_count.ensures ∙ c.if-bad_count.false))
+    let args = c.args in
+    let l : length args.run.marks ≡ task_limit = search rules in
+    omega (arith, count_range args.run.job.tasks (sym c.bad_count.ensures ∙ c.if-bad_count.false))
 
 pub slice_bounds-check_marks-end : goal.slice_bounds-check_marks-end
 slice_bounds-check_marks-end c =
-    let l : length c.args.run.marks ≡ task_limit = search rules in
-    sym (length-take-le c.args.run.job.tasks c.args.run.marks (omega (arith, count_range c.args.run.job.tasks (sym c.bad_count.ensures ∙ c.if-bad_count.false))))
+    let args = c.args in
+    let l : length args.run.marks ≡ task_limit = search rules in
+    sym (length-take-le args.run.job.tasks args.run.marks (omega (arith, count_range args.run.job.tasks (sym c.bad_count.ensures ∙ c.if-bad_count.false))))
 
 pub check_marks-requires : goal.check_marks-requires
 check_marks-requires c =
@@ -47,4 +48,4 @@ pub returns : goal.returns
 returns c =
     let passed : c.check_job.result ≡ Ok tt = search rules in
     refused_later Numbers.bad_count _ c.bad_count.ensures c.if-bad_count.false
-    (passes_on _ _ (job_conditions c.args.run.job) _ (job_numbered c.args.run.job) passed c.check_job.ensures c.check_marks.ensures)
+    (passes_on _ tt (job_conditions c.args.run.job) _ (job_numbered c.args.run.job) passed c.check_job.ensures c.check_marks.ensures)

@@ -17,12 +17,6 @@ bounds-marks-j c = omega (arith, c.entries-most.ensures.list)
 pub bounds-held-j : goal.bounds-held-j
 bounds-held-j c = omega (arith, c.entries-most.ensures.room)
 
-pub overflow_add-j : goal.overflow_add-j
-overflow_add-j c = omega (arith, c.entries-most.ensures.room)
-
-pub loop-j-smaller : goal.loop-j-smaller
-loop-j-smaller c = omega arith
-
 pub loop-j-preserved : goal.loop-j-preserved
 loop-j-preserved c = taken_more _ _ _ c.entries-most.ensures _ _ c.loop-j.invariant (omega arith)
 

@@ -25,12 +25,6 @@ offset_bounds-held-j c = omega (arith, c.entries-most.ensures.room)
 pub bounds-held-j : goal.bounds-held-j
 bounds-held-j c = omega (arith, c.entries-most.ensures.room)
 
-pub overflow_add-j : goal.overflow_add-j
-overflow_add-j c = omega (arith, c.entries-most.ensures.room)
-
-pub loop-j-smaller : goal.loop-j-smaller
-loop-j-smaller c = omega arith
-
 pub loop-j-preserved : goal.loop-j-preserved
 loop-j-preserved c =
     let entries = c.entries-most in
