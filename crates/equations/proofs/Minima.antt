@@ -53,9 +53,6 @@ pub record Offered (N a b k : ℕ) (f : ℕ → ℕ) (least : Least) : Type 0 wh
   pub earliest : least.time < N → IsEarliest a k f least.time least.at
 
 module _ (N a b : ℕ) (f : ℕ → ℕ) where
-  pub offered_first : (u : ℕ) → a ≤ b → Offered N a b a f (record { time = N; at = u })
-  offered_first u h = record { from = omega arith; to = h; min = min_first N a f; earliest = λ l. absurd (omega arith) }
-
   module _ (k : ℕ) (least : Least) (o : Offered N a b k f least) (h : k < b) where
     -- a lesser time is the new least, and its position the only one
     offered_new : f k < least.time → Offered N a b (k + 1) f (record { time = f k; at = k })
