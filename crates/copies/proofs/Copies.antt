@@ -66,10 +66,6 @@ module _ (n : ℕ) (time t b : List ℕ) (d m left top : ℕ) where
   unfolding low
   soonest_is disk y e i v x is = rw (is, i, e)
 
-  soonest_ge : (v : ℕ) → get_or time m 0 ≤ soonest v
-  unfolding low
-  soonest_ge v = omega arith
-
   pub passed_next : (v : ℕ) → m < v → Passed (v + 1) → min (get_or time v 0) (left - (bounds_in n b).after d v) ≤ soonest v → Passed v
   passed_next v h p x = record { from = h; none_later = λ w a k y z. go w a k y z (ℕ_discrete w v) }
     where

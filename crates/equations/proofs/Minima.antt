@@ -16,9 +16,6 @@ use Rattle.equations.specs.Equations.{Attained, IsMin, IsEarliest, LevelEquation
 
 -- a min over nothing, over one position more, and no other
 module _ (N a : ℕ) (f : ℕ → ℕ) where
-  pub min_first : IsMin N a a f N
-  min_first = record { cap = omega arith; lower = λ u h l. absurd (omega arith); attained = λ h. absurd (omega arith) }
-
   pub min_more : (k t : ℕ) → a ≤ k → IsMin N a k f t → IsMin N a (k + 1) f (min t (f k))
   min_more k t h i = record { cap = omega (arith, i.cap); lower = λ u p q. below u p (ℕ_discrete u k) q; attained = λ l. at l (dec_le t (f k)) }
     where
