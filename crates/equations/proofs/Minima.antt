@@ -16,9 +16,6 @@ use Rattle.equations.specs.Equations.{Attained, IsMin, IsEarliest, LevelEquation
 
 -- a min over nothing, over one position more, and no other
 module _ (N a : ℕ) (f : ℕ → ℕ) where
-  pub min_first : IsMin N a a f N
-  min_first = record { cap = omega arith; lower = λ u h l. absurd (omega arith); attained = λ h. absurd (omega arith) }
-
   pub min_more : (k t : ℕ) → a ≤ k → IsMin N a k f t → IsMin N a (k + 1) f (min t (f k))
   min_more k t h i = record { cap = omega (arith, i.cap); lower = λ u p q. below u p (ℕ_discrete u k) q; attained = λ l. at l (dec_le t (f k)) }
     where
@@ -53,9 +50,6 @@ pub record Offered (N a b k : ℕ) (f : ℕ → ℕ) (least : Least) : Type 0 wh
   pub earliest : least.time < N → IsEarliest a k f least.time least.at
 
 module _ (N a b : ℕ) (f : ℕ → ℕ) where
-  pub offered_first : (u : ℕ) → a ≤ b → Offered N a b a f (record { time = N; at = u })
-  offered_first u h = record { from = omega arith; to = h; min = min_first N a f; earliest = λ l. absurd (omega arith) }
-
   module _ (k : ℕ) (least : Least) (o : Offered N a b k f least) (h : k < b) where
     -- a lesser time is the new least, and its position the only one
     offered_new : f k < least.time → Offered N a b (k + 1) f (record { time = f k; at = k })

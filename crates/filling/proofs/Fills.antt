@@ -26,7 +26,7 @@ use Rattle.costs.specs.Working.Factors.{energy_factors_of, energy_factors_at, Re
 use Rattle.costs.specs.declared.Powers.{Powers}
 use Rattle.costs.proofs.Ranges.{cm_energy, cd_energy, rd_energy, rm_energy}
 use Rattle.costs.proofs.Stretches.{energy_factors, energy_ready, energy_decides, energy_factored}
-use Rattle.table.specs.Working.Table.{needed, cm_start, cd_start, rd_start, rm_start, entry_of, column, chain_in, put_pair, PairFits, Packable, Bounded, Firsts, FirstsPut}
+use Rattle.table.specs.Working.Table.{cm_start, cd_start, rd_start, rm_start, entry_of, column, chain_in, put_pair, PairFits, Packable, Bounded, Firsts, FirstsPut}
 use Rattle.table.proofs.Pairs.{needed_less}
 use Rattle.table.proofs.Table.{length_put_pair, put_pair_here, put_pair_apart, column_here, column_apart, column_entry, firsts_entry, firsts_column}
 use Rattle.filling.specs.Weight.{weight_after}
@@ -105,18 +105,6 @@ module _ (powers : Powers) (job : Job) (u v : ℕ) (t : List ℕ) (h : PairsTo p
       at x y a b c (yes p) (yes q) = rw (p, q, put_pair_here t u v f fits) e
       at x y a b c (yes p) (no q) = other x y a b c (λ _ z. q z)
       at x y a b c (no p) q = other x y a b c (λ z _. p z)
-
-  -- after the last far end the next near end begins
-  pub pairs_next : job.tasks < v → PairsTo powers job (u + 1) (u + 2) t
-  pairs_next k = record { long = h.long; pairs = λ x y a b c. h.pairs x y a b (earlier x y a b c) }
-    where
-      earlier : (x y : ℕ) → x < y → y ≤ job.tasks → EarlierPair x y (u + 1) (u + 2) → EarlierPair x y u v
-      earlier x y a b (inl z) = go (ℕ_discrete x u)
-        where
-          go : Dec (x ≡ u) → EarlierPair x y u v
-          go (yes p) = inr (p, omega arith)
-          go (no p) = inl (omega arith)
-      earlier x y a b (inr z) = absurd (omega (arith, z.0, z.1))
 
 -- a column has its entries before k, with the cost that the job gives at each
 module _ (cost : ℕ → ℕ) (start k : ℕ) (t : List ℕ) (old : (v : ℕ) → v < k → column start t v ≡ cost v) where

@@ -43,8 +43,7 @@ fn add_terms(from: Partial, shift: u64, y: u64, last: u64) -> Partial
 {
     let mut term = from.term;
     let mut sum = from.sum;
-    let mut k = from.k;
-    while k < last {
+    for k in from.k..last {
         let product = ceil_div(term * y, UNIT);
         if product <= 1 {
             let whole = sum + (LAST_TERM - k) * product;
@@ -54,15 +53,11 @@ fn add_terms(from: Partial, shift: u64, y: u64, last: u64) -> Partial
                 sum: whole,
             };
         }
-        k += 1;
-        term = ceil_div(product, k + shift);
+        term = ceil_div(product, k + 1 + shift);
         sum += term;
     }
-    Partial {
-        k: k,
-        term: term,
-        sum: sum,
-    }
+    let k = last.max(from.k);
+    Partial { k, term, sum }
 }
 
 // Both sums: they differ in the divisor's shift alone, 0 for G and 1 for H.

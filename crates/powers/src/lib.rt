@@ -22,7 +22,7 @@ const SAVING_COSTS: usize = 4;
 fn out_of_range(power: u64) -> bool
     ensures { result ≡ out_of_range power }
 {
-    power < LEAST_POWER || MOST_POWER < power
+    !(LEAST_POWER..=MOST_POWER).contains(&power)
 }
 
 // The product passes 2^30. The power is in range, so that no product wraps.
@@ -38,14 +38,9 @@ fn bad_computing(power: u64, job: Job) -> bool
     requires { job.tasks ≤ task_limit }
     ensures { result ≡ bad_computing power job }
 {
-    if out_of_range(power) {
-        return true;
-    }
-    let weights = job.weights;
-    if passes(power, weight_to(weights, job.tasks)) {
-        return true;
-    }
-    passes(power, wide(job.platform.v))
+    out_of_range(power)
+        || passes(power, weight_to(job.weights, job.tasks))
+        || passes(power, wide(job.platform.v))
 }
 
 // A product of one of the costs of saving and recovering passes 2^30. The power is in range.
@@ -53,25 +48,15 @@ fn saving_passes(power: u64, costs: [u32; SAVING_COSTS]) -> bool
     requires { power ≤ most_power }
     ensures { result ≡ saving_passes power costs }
 {
-    let mut i: usize = 0;
-    while i < SAVING_COSTS {
-        if passes(power, wide(costs[i])) {
-            return true;
-        }
-        i += 1;
-    }
-    false
+    costs.iter().any(|cost| passes(power, wide(*cost)))
 }
 
 // The second power, with C_D, C_M, R_D and R_M.
 fn bad_saving(power: u64, job: Job) -> bool
     ensures { result ≡ bad_saving power job }
 {
-    if out_of_range(power) {
-        return true;
-    }
     let p = job.platform;
-    saving_passes(power, [p.cd, p.cm, p.rd, p.rm])
+    out_of_range(power) || saving_passes(power, [p.cd, p.cm, p.rd, p.rm])
 }
 
 // 29: a power or a product outside its range.
@@ -79,8 +64,5 @@ pub fn bad_powers(powers: Powers, job: Job) -> bool
     requires { job.tasks ≤ task_limit }
     ensures { result ≡ bad_powers powers job }
 {
-    if bad_computing(powers.computing, job) {
-        return true;
-    }
-    bad_saving(powers.saving, job)
+    bad_computing(powers.computing, job) || bad_saving(powers.saving, job)
 }

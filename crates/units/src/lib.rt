@@ -1,7 +1,7 @@
 // Numbers in units of 2^-24, rounding up to whole ticks, and the limits of document 01: the longest time, the most tasks.
 #![tactic(auto)]
 
-ghost use Rattle.std.specs.Prelude.{◌≡◌, ◌+◌, ◌-◌, ◌≤◌, ◌^◌, min};
+ghost use Rattle.std.specs.Prelude.{◌≡◌, ◌+◌, ◌≤◌, ◌^◌};
 ghost use Rattle.units.specs.Unit.{unit, up};
 
 pub const UNIT: u64 = 16_777_216;
@@ -23,23 +23,4 @@ pub fn rounded_up(p: u64) -> u64
     ensures { result ≡ up p }
 {
     (p + (UNIT - 1)) / UNIT
-}
-
-pub fn lesser(a: u64, b: u64) -> u64
-    ensures { result ≡ min a b }
-{
-    if a < b {
-        return a;
-    }
-    b
-}
-
-// a - b, and 0 where b is more.
-pub fn excess(a: u64, b: u64) -> u64
-    ensures { result ≡ a - b }
-{
-    if a < b {
-        return 0;
-    }
-    a - b
 }

@@ -8,14 +8,14 @@ use native.Mathlib.Omega.{arith}
 use borrow.Author.Tests.{lt-ltb, le-ltb}
 use lib.Dec.{eqb}
 use lib.ListN.{length, get_or, set, replicate, length-set, length-replicate, get_or-replicate}
-use lib.Seq.{get_or-set_same, get_or-set_other}
+use lib.Seq.{get_or-set_same}
 use Rattle.units.specs.Limits.{none}
 use Rattle.chain.specs.Working.Factors.{stretch_of}
 use Rattle.chain.specs.Working.Search.{Cost, least, earliest, reach, way}
 use Rattle.chain.proofs.Search.{least_new, least_old, least_cap, reach_start, reach_cap, way_is, way_unreached, way_before}
 use Rattle.chain.specs.declared.Recoveries.{Recoveries}
 use Rattle.units.specs.Limits.{positions}
-use Rattle.verifications.specs.Working.Rows.{sooner, sooner_from, OfferMade, Row, EndIs, Unreached}
+use Rattle.verifications.specs.Working.Rows.{sooner, sooner_from, OfferMade, Row, EndIs}
 use Rattle.table.specs.Working.Table.{entry_of, arrival_at}
 
 -- no arrival is before its start
@@ -149,14 +149,6 @@ module _ (end v q r : ℕ) (at : EndIs q (v + 1) end r) where
       go : Dec (q < none) → u < r
       go (yes l) = omega (arith, at.some l)
       go (no l) = omega (arith, at.no (omega arith))
-
-  pub end_unreached : (b : ℕ) (cost : Cost) → q ≡ reach none b cost v → Unreached b cost end v → Unreached b cost r (v + 1)
-  end_unreached b cost is unreached u a l = go (dec_lt q none) (ℕ_discrete u v)
-    where
-      go : Dec (q < none) → Dec (u ≡ v) → none ≤ reach none b cost u
-      go (yes k) e = absurd (omega (arith, at.some k))
-      go (no k) (yes e) = rw (e, ← is) (omega arith)
-      go (no k) (no e) = unreached u (omega (arith, at.no (omega arith))) (omega arith)
 
 pub row_less : (N b : ℕ) (cost : Cost) (e f : ℕ) (time : List ℕ) → f ≤ e → Row N b cost e time → Row N b cost f time
 row_less N b cost e f time h row = record { long = row.long; times = λ v k l. row.times v k (omega arith) }

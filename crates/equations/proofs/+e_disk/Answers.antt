@@ -2,35 +2,11 @@ use Prim.Native.Nat.{◌<◌}
 use native.Mathlib.Omega.{arith}
 use Rattle.chain.proofs.Search.{least_d_start}
 use Rattle.costs.specs.Stretch.{chain_of}
-use Rattle.equations.proofs.Minima.{offered_first, offered_more, level_start, level_found, disk_min}
+use Rattle.equations.proofs.Minima.{offered_more, level_start, level_found, disk_min}
 use Rattle.equations.proofs.+e_disk.Goals as goal
 
 pub returns-then-d2-eq0 : goal.returns-then-d2-eq0
 returns-then-d2-eq0 t c = rw c.if-d2-eq0.true (level_start _ _ _ _ _ (least_d_start _ _))
-
-pub loop-d1-init : goal.loop-d1-init
-loop-d1-init t c = offered_first _ _ _ _ _ (omega arith)
-
-pub e_disk-requires : goal.e_disk-requires
-e_disk-requires t c =
-    let pre = c.requires in
-    (omega (arith, c.decreases), record { sound = pre.sound; end = omega (arith, pre.end) })
-
-pub e_mem-requires : goal.e_mem-requires
-e_mem-requires t c =
-    let pre = c.requires in
-    record { sound = pre.sound; start = c.loop-d1.invariant.to; end = pre.end }
-
-pub overflow_add-time : goal.overflow_add-time
-overflow_add-time t c = omega (arith, c.e_disk.ensures.cap, c.e_mem.ensures.cap)
-
-pub cd_at-requires : goal.cd_at-requires
-cd_at-requires t c =
-    let pre = c.requires in
-    omega (arith, pre.end, pre.sound.few_tasks)
-
-pub overflow_add-time-in-loop-d1 : goal.overflow_add-time-in-loop-d1
-overflow_add-time-in-loop-d1 t c = omega (arith, c.e_disk.ensures.cap, c.e_mem.ensures.cap, c.cd_at.ensures.fits)
 
 pub loop-d1-preserved : goal.loop-d1-preserved
 unfolding chain_of

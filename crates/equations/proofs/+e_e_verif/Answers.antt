@@ -3,14 +3,9 @@ use native.Mathlib.Omega.{arith}
 use Rattle.chain.specs.Working.Factors.{stretch_of}
 use Rattle.chain.proofs.Search.{least_q_start}
 use Rattle.chain.proofs.Products.{disk_product, again_product, memory_product, disk_part, again_part, memory_part}
-use Rattle.equations.proofs.Minima.{offered_first, offered_more, level_start, level_found, verification_min}
+use Rattle.equations.proofs.Minima.{level_start, level_found, verification_min}
 use Rattle.equations.proofs.Stretches.{stretch_none, stretch_ready, stretch_some}
 use Rattle.equations.proofs.+e_e_verif.Goals as goal
-
-pub e-growths-f-requires : goal.e-growths-f-requires
-e-growths-f-requires t c =
-    let pre = c.requires in
-    pre.stretch
 
 pub e-returns-then-f-eq0 : goal.e-returns-then-f-eq0
 e-returns-then-f-eq0 t c =
@@ -28,16 +23,6 @@ e-overflow_sub-f t c =
     let if1 = c.if-f-eq0 in
     let ready = stretch_ready pre growths.ensures if1.false 0 (omega arith) in
     ready.factors.both
-
-pub e-rd_at-requires : goal.e-rd_at-requires
-e-rd_at-requires t c =
-    let pre = c.requires in
-    omega (arith, pre.copies, pre.start, pre.stretch.order, pre.stretch.end, pre.stretch.sound.few_tasks)
-
-pub e-overflow_add-rd_at : goal.e-overflow_add-rd_at
-e-overflow_add-rd_at t c =
-    let pre = c.requires in
-    omega (arith, c.rd_at.ensures.fits, pre.time)
 
 pub e-overflow_mul-f : goal.e-overflow_mul-f
 e-overflow_mul-f t c =
@@ -70,19 +55,6 @@ e-overflow_sub-f-2 t c =
     let if1 = c.if-f-eq0 in
     let ready = stretch_ready pre growths.ensures if1.false 0 (omega arith) in
     omega (arith, ready.factors.silent, ready.factors.both)
-
-pub e-e_verif-requires : goal.e-e_verif-requires
-e-e_verif-requires t c =
-    let pre = c.requires in (
-      omega (arith, c.decreases, pre.stretch.order),
-      record {
-        sound = pre.stretch.sound;
-        copies = pre.copies;
-        start = omega (arith, pre.start);
-        end = omega (arith, pre.start, pre.stretch.order, pre.stretch.end);
-        time = pre.time;
-      },
-    )
 
 pub e-overflow_mul-f-2 : goal.e-overflow_mul-f-2
 e-overflow_mul-f-2 t c =
@@ -121,11 +93,6 @@ e-overflow_sub-f-3 t c =
     let if1 = c.if-f-eq0 in
     let ready = stretch_ready pre growths.ensures if1.false 0 (omega arith) in
     ready.factors.silent
-
-pub e-rm_at-requires : goal.e-rm_at-requires
-e-rm_at-requires t c =
-    let pre = c.requires in
-    omega (arith, pre.start, pre.stretch.order, pre.stretch.end, pre.stretch.sound.few_tasks)
 
 pub e-overflow_mul-f-3 : goal.e-overflow_mul-f-3
 e-overflow_mul-f-3 t c =
@@ -180,38 +147,6 @@ e-returns t c =
 
 pub e_verif-returns-then-v2-m1 : goal.e_verif-returns-then-v2-m1
 e_verif-returns-then-v2-m1 t c = rw c.if-v2-m1.true (level_start _ _ _ _ _ (least_q_start _ _ _ _ _))
-
-pub e_verif-loop-v1-init : goal.e_verif-loop-v1-init
-e_verif-loop-v1-init t c = offered_first _ _ _ _ _ c.requires.start
-
-pub e_verif-e_verif-requires : goal.e_verif-e_verif-requires
-e_verif-e_verif-requires t c =
-    let pre = c.requires in
-    let inv = c.loop-v1.invariant in (
-      omega (arith, c.decreases),
-      record { sound = pre.sound; copies = pre.copies; start = inv.from; end = omega (arith, inv.to, pre.end); time = pre.time },
-    )
-
-pub e_verif-e-requires : goal.e_verif-e-requires
-e_verif-e-requires t c =
-    let pre = c.requires in
-    let inv = c.loop-v1.invariant in (
-      omega (arith, c.decreases),
-      record {
-        stretch = record { sound = pre.sound; order = omega arith; end = pre.end };
-        copies = pre.copies;
-        start = inv.from;
-        time = pre.time;
-      },
-    )
-
-pub e_verif-overflow_add-time : goal.e_verif-overflow_add-time
-e_verif-overflow_add-time t c = omega (arith, c.e_verif.ensures.cap, c.e.ensures.cap)
-
-pub e_verif-loop-v1-preserved : goal.e_verif-loop-v1-preserved
-e_verif-loop-v1-preserved t c =
-    let loop = c.loop-v1 in
-    rw (c.offer-least.ensures, c.e.ensures.value, c.e_verif.ensures.value) (offered_more _ _ _ _ _ _ loop.invariant (omega arith))
 
 pub e_verif-returns : goal.e_verif-returns
 e_verif-returns t c =

@@ -2,43 +2,11 @@ use Prim.Native.Nat.{◌<◌}
 use native.Mathlib.Omega.{arith}
 use Rattle.chain.proofs.Search.{least_m_start}
 use Rattle.costs.specs.Stretch.{chain_of}
-use Rattle.equations.proofs.Minima.{offered_first, offered_more, level_start, level_found, memory_min}
+use Rattle.equations.proofs.Minima.{offered_more, level_start, level_found, memory_min}
 use Rattle.equations.proofs.+e_mem.Goals as goal
 
 pub returns-then-m2-d1 : goal.returns-then-m2-d1
 returns-then-m2-d1 t c = rw c.if-m2-d1.true (level_start _ _ _ _ _ (least_m_start _ _ _))
-
-pub loop-m1-init : goal.loop-m1-init
-loop-m1-init t c = offered_first _ _ _ _ _ c.requires.start
-
-pub e_mem-mem-requires : goal.e_mem-mem-requires
-e_mem-mem-requires t c =
-    let pre = c.requires in
-    let inv = c.loop-m1.invariant in
-    (omega (arith, c.decreases), record { sound = pre.sound; start = inv.from; end = omega (arith, inv.to, pre.end) })
-
-pub e_verif-requires : goal.e_verif-requires
-e_verif-requires t c =
-    let pre = c.requires in
-    let loop = c.loop-m1 in
-    record {
-      sound = pre.sound;
-      copies = loop.invariant.from;
-      start = loop.invariant.to;
-      end = pre.end;
-      time = omega (arith, c.e_mem-mem.ensures.cap);
-    }
-
-pub overflow_add-time : goal.overflow_add-time
-overflow_add-time t c = omega (arith, c.e_mem-mem.ensures.cap, c.e_verif.ensures.cap)
-
-pub cm_at-requires : goal.cm_at-requires
-cm_at-requires t c =
-    let pre = c.requires in
-    omega (arith, pre.end, pre.sound.few_tasks)
-
-pub overflow_add-time-in-loop-m1 : goal.overflow_add-time-in-loop-m1
-overflow_add-time-in-loop-m1 t c = omega (arith, c.e_mem-mem.ensures.cap, c.e_verif.ensures.cap, c.cm_at.ensures.fits)
 
 pub loop-m1-preserved : goal.loop-m1-preserved
 unfolding chain_of

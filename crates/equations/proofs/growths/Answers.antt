@@ -6,26 +6,11 @@ use Rattle.job.proofs.Weights.{total_mono}
 use Rattle.costs.proofs.Stretches.{factors_ready}
 use Rattle.equations.proofs.growths.Goals as goal
 
-pub weight_to-requires : goal.weight_to-requires
-weight_to-requires c =
-    let pre = c.requires in
-    omega (arith, pre.end, pre.sound.few_tasks)
-
-pub weight_to-requires-2 : goal.weight_to-requires-2
-weight_to-requires-2 c =
-    let pre = c.requires in
-    omega (arith, pre.order, pre.end, pre.sound.few_tasks)
-
 pub overflow_sub-w : goal.overflow_sub-w
 overflow_sub-w c =
     let args = c.args in
     let pre = c.requires in
     rw (c.weight_to-2.ensures.value, c.weight_to.ensures.value) (total_mono args.job.weights args.v1 args.v2 (omega (arith, pre.order)))
-
-pub v_at-requires : goal.v_at-requires
-v_at-requires c =
-    let pre = c.requires in
-    omega (arith, pre.end, pre.sound.few_tasks)
 
 pub stretch_factors-requires : goal.stretch_factors-requires
 unfolding between

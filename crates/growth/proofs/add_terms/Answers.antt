@@ -42,59 +42,36 @@ module _ {s y t sum k : ℕ} (at : UpTo s y t sum k) where
 rest_cap : (k p : ℕ) → p ≤ 1 → (last_term - k) * p ≤ last_term
 rest_cap k p small = omega (arith, mul-le-mul_left (last_term - k) small)
 
-pub loop-k-init : goal.loop-k-init
-loop-k-init c = c.requires.up_to
-
 pub overflow_mul-term : goal.overflow_mul-term
-overflow_mul-term c = omega (arith, dividend_cap c.loop-k.invariant (omega arith))
+overflow_mul-term c = omega (arith, dividend_cap c.loop-k.invariant.up_to (omega arith))
 
 pub ceil_div-product-requires : goal.ceil_div-product-requires
 ceil_div-product-requires c =
-    let cap = dividend_cap c.loop-k.invariant (omega arith) in
+    let cap = dividend_cap c.loop-k.invariant.up_to (omega arith) in
     record { positive = omega arith; room = omega arith }
-
-pub overflow_sub-whole : goal.overflow_sub-whole
-overflow_sub-whole c = omega arith
-
-pub overflow_mul-whole : goal.overflow_mul-whole
-overflow_mul-whole c =
-    let loop = c.loop-k in
-    omega (arith, rest_cap loop.k c.ceil_div-product.result (omega arith))
 
 pub overflow_add-whole : goal.overflow_add-whole
 overflow_add-whole c =
     let loop = c.loop-k in
-    omega (arith, sum_cap loop.invariant (omega arith), rest_cap loop.k c.ceil_div-product.result (omega arith))
+    omega (arith, sum_cap loop.invariant.up_to (omega arith), rest_cap loop.k c.ceil_div-product.result (omega arith))
 
 pub returns-then-product-le1 : goal.returns-then-product-le1
 returns-then-product-le1 c =
     let loop = c.loop-k in
-    record { reached = omega arith; up_to = settled loop.invariant _ (omega arith) (omega arith) c.ceil_div-product.ensures }
-
-pub overflow_add-k : goal.overflow_add-k
-overflow_add-k c = omega arith
-
-pub overflow_add-k-in-loop-k : goal.overflow_add-k-in-loop-k
-overflow_add-k-in-loop-k c = omega arith
+    record { reached = omega arith; up_to = settled loop.invariant.up_to _ (omega arith) (omega arith) c.ceil_div-product.ensures }
 
 pub ceil_div-term-requires : goal.ceil_div-term-requires
 ceil_div-term-requires c =
     let loop = c.loop-k in
-    let cap = product_cap loop.invariant (omega arith) _ c.ceil_div-product.ensures in
+    let cap = product_cap loop.invariant.up_to (omega arith) _ c.ceil_div-product.ensures in
     record { positive = omega arith; room = omega arith }
 
 pub overflow_add-sum : goal.overflow_add-sum
 overflow_add-sum c =
     let loop = c.loop-k in
-    omega (arith, sum_cap (next loop.invariant _ _ (omega arith) c.ceil_div-product.ensures c.ceil_div-term.ensures) (omega arith))
-
-pub loop-k-smaller : goal.loop-k-smaller
-loop-k-smaller c = omega arith
+    omega (arith, sum_cap (next loop.invariant.up_to _ _ (omega arith) c.ceil_div-product.ensures c.ceil_div-term.ensures) (omega arith))
 
 pub loop-k-preserved : goal.loop-k-preserved
 loop-k-preserved c =
     let loop = c.loop-k in
-    next loop.invariant _ _ (omega arith) c.ceil_div-product.ensures c.ceil_div-term.ensures
-
-pub returns : goal.returns
-returns c = record { reached = omega arith; up_to = c.loop-k.invariant }
+    record { up_to = next loop.invariant.up_to _ _ (omega arith) c.ceil_div-product.ensures c.ceil_div-term.ensures; to = omega arith }

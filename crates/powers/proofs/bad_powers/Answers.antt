@@ -1,14 +1,12 @@
 -- `powers::bad_powers` meets its contract. The first power, then the second. Assumes nothing.
+use Rattle.std.proofs.Common.{rules}
 use Rattle.powers.specs.Powers.{bad_powers}
 use Rattle.powers.proofs.bad_powers.Goals as goal
 
 pub returns-then-bad_computing : goal.returns-then-bad_computing
 unfolding bad_powers
-returns-then-bad_computing c = rw (← c.bad_computing.ensures, c.if-bad_computing.true)
+returns-then-bad_computing c = search rules
 
-pub returns : goal.returns
+pub returns-else-bad_computing : goal.returns-else-bad_computing
 unfolding bad_powers
-returns c =
-    let bad-computing = c.bad_computing in
-    let if1 = c.if-bad_computing in
-    rw (← bad-computing.ensures, if1.false, ← c.bad_saving.ensures)
+returns-else-bad_computing c = search rules

@@ -6,15 +6,7 @@ use borrow.Author.Rules.{rules}
 use Rattle.pricing.proofs.setting_time.Goals as goal
 
 pub loop-j-init : goal.loop-j-init
-loop-j-init c = record { to = search rules; progress = progress_start _ _; in_time = search rules }
-
-pub offset_bounds-weights-j : goal.offset_bounds-weights-j
-offset_bounds-weights-j c = omega arith
-
-pub bounds-weights-j : goal.bounds-weights-j
-bounds-weights-j c =
-    let pre = c.requires in
-    omega (arith, pre.sound.few_tasks)
+loop-j-init c = record { progress = progress_start _ _; in_time = search rules }
 
 pub overflow_add-s : goal.overflow_add-s
 overflow_add-s c =
@@ -45,16 +37,6 @@ past_mark-s-requires c =
       mark_range = marks_range _ _ passed.marks _ loop-test.true;
     }
 
-pub overflow_add-s-in-loop-j : goal.overflow_add-s-in-loop-j
-overflow_add-s-in-loop-j c =
-    let past-mark = c.past_mark-s in
-    omega (arith, past-mark.ensures.cap)
-
-pub overflow_add-s-in-loop-j-2 : goal.overflow_add-s-in-loop-j-2
-overflow_add-s-in-loop-j-2 c =
-    let past-mark = c.past_mark-s in
-    omega (arith, past-mark.ensures.cap)
-
 pub returns-then-s-ge-NONE : goal.returns-then-s-ge-NONE
 returns-then-s-ge-NONE c =
     let pre = c.requires in
@@ -75,7 +57,6 @@ loop-j-preserved c =
     let if1 = c.if-s-ge-NONE in
     let passed = marks_passed _ _ pre.marks in
     record {
-      to = omega arith;
       progress = rw past-mark.ensures.value (progress_past _ _ _ _ loop.invariant.progress (marks_range _ _ passed.marks _ loop-test.true));
       in_time = if1.false;
     }

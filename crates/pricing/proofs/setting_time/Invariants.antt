@@ -3,13 +3,12 @@
 use Rattle.progress.specs.declared.Progress.{Progress}
 use Rattle.job.specs.declared.Job.{Job}
 use mathlib.Core.List.{List}
-use Prim.Native.Nat.{ℕ, ◌+◌, ◌≤◌, ◌<◌}
+use Prim.Native.Nat.{ℕ, ◌+◌, ◌<◌}
 use Rattle.units.specs.Limits.{none}
 use Rattle.pricing.proofs.Progresses.{Progresses}
 use Rattle.pricing.proofs.setting_time.Given as goal
 
 pub record Carried (job : Job) (marks : List ℕ) (s : Progress) (j : ℕ) : Type 0 where
-  pub to : j ≤ job.tasks
   pub progress : Progresses job marks j s
   pub in_time : s.dt + s.mt + s.q < none
 
