@@ -30,12 +30,7 @@ use walk::plan_marks;
 
 // The plan of the chain that the table t holds, of n tasks, for a buffer that holds its marks; b is lent for the bounds. Planning calls this, with arrays that are long
 // enough for n. The time is known to fit before a byte is written.
-pub fn plan_chain(
-    t: &[u32],
-    b: &mut [u64],
-    n: usize,
-    buffer: &mut [u8],
-) -> Result<u64, Refusal>
+pub fn plan_chain(t: &[u32], b: &mut [u64], n: usize, buffer: &mut [u8]) -> Result<u64, Refusal>
     requires { ReadyForChain t.now b.old n buffer.old }
     ensures { PlansChain (chain_in t.now) n buffer.old buffer.new (answer_of result) }
 {

@@ -93,23 +93,23 @@ returns c =
     let light = sym (c.over_weight.ensures run refl refl) ∙ c.if-over_weight.false in
     elim c.match-event.branch [
       | in-Done w ↦
-        let event = w.in-Done.is in
-        let turned = rw event at turn in
-        rw (c.arrived.ensures, w.next-is, w.carrying-next.ensures, event)
-        (arrived_moves run _ _ unfinished turned (rw event at light) (done_arrives run args.carried c.requires w.after_done.result turned w.after_done.ensures))
+          let event = w.in-Done.is in
+          let turned = rw event at turn in
+          rw (c.arrived.ensures, w.next-is, w.carrying-next.ensures, event)
+          (arrived_moves run _ _ unfinished turned (rw event at light) (done_arrives run args.carried c.requires w.after_done.result turned w.after_done.ensures))
       | in-Passed w ↦
-        let event = w.in-Passed.is in
-        let turned = rw event at turn in
-        rw (c.arrived.ensures, w.next-is, w.over_mark-next.ensures, w.mark_at.ensures, event)
-        (arrived_moves run _ _ unfinished turned (rw event at light) (passed_arrives run args.carried c.requires w.after_passed.result turned w.after_passed.ensures))
+          let event = w.in-Passed.is in
+          let turned = rw event at turn in
+          rw (c.arrived.ensures, w.next-is, w.over_mark-next.ensures, w.mark_at.ensures, event)
+          (arrived_moves run _ _ unfinished turned (rw event at light) (passed_arrives run args.carried c.requires w.after_passed.result turned w.after_passed.ensures))
       | in-Failed w ↦
-        let event = w.in-Failed.is in
-        let turned = rw event at turn in
-        rw (c.arrived.ensures, w.next-is, w.carrying-next-in-Failed.ensures, event)
-        (arrived_moves run _ _ unfinished turned (rw event at light) (failed_arrives run args.carried c.requires w.after_failed.result turned w.after_failed.ensures))
+          let event = w.in-Failed.is in
+          let turned = rw event at turn in
+          rw (c.arrived.ensures, w.next-is, w.carrying-next-in-Failed.ensures, event)
+          (arrived_moves run _ _ unfinished turned (rw event at light) (failed_arrives run args.carried c.requires w.after_failed.result turned w.after_failed.ensures))
       | in-Stopped w ↦
-        let event = w.in-Stopped.is in
-        let turned = rw event at turn in
-        rw (c.arrived.ensures, w.next-is, w.carrying-next-in-Stopped.ensures, event)
-        (arrived_moves run _ _ unfinished turned (rw event at light) (stopped_arrives run args.carried c.requires _ w.after_stopped.result turned w.after_stopped.ensures))
+          let event = w.in-Stopped.is in
+          let turned = rw event at turn in
+          rw (c.arrived.ensures, w.next-is, w.carrying-next-in-Stopped.ensures, event)
+          (arrived_moves run _ _ unfinished turned (rw event at light) (stopped_arrives run args.carried c.requires _ w.after_stopped.result turned w.after_stopped.ensures))
     ]
