@@ -33,7 +33,7 @@ pub struct Job {
 }
 
 impl Job {
-    // The values with every field 0, which a refusal gives.
+    // The values with every field 0, which a refused start gives. No derived `Default`: it tells each field apart, and the contract has one value of them all.
     pub fn zero() -> Job
         ensures { result ≡ zero_job }
     {
