@@ -8,7 +8,7 @@ ghost use Rattle.powers.specs.Working.Ready.{ReadyForProduct};
 
 use costs::Powers;
 use job::Job;
-use job::totals::{weight_to, wide};
+use job::totals::weight_to;
 
 const LEAST_POWER: u64 = 1;
 
@@ -40,7 +40,7 @@ fn bad_computing(power: u64, job: Job) -> bool
 {
     out_of_range(power)
         || passes(power, weight_to(job.weights, job.tasks))
-        || passes(power, wide(job.platform.v))
+        || passes(power, u64::from(job.platform.v))
 }
 
 // A product of one of the costs of saving and recovering passes 2^30. The power is in range.
@@ -48,7 +48,7 @@ fn saving_passes(power: u64, costs: [u32; SAVING_COSTS]) -> bool
     requires { power ≤ most_power }
     ensures { result ≡ saving_passes power costs }
 {
-    costs.iter().any(|cost| passes(power, wide(*cost)))
+    costs.iter().any(|cost| passes(power, u64::from(*cost)))
 }
 
 // The second power, with C_D, C_M, R_D and R_M.

@@ -17,11 +17,6 @@ pub record ReadyForWeights (n : ℕ) (w : List ℕ) : Type 0 where
   pub few_tasks : n ≤ task_limit
   pub held : n ≤ length w
 
--- a field of 32 bits as a wider number
-pub record Widened (x r : ℕ) : Type 0 where
-  pub value : r ≡ x
-  pub range : r < 2 ^ 32
-
 -- the weight of the first n tasks, of weights in any range
 pub record WeightTo (weights : List ℕ) (n r : ℕ) : Type 0 where
   pub value : r ≡ total weights n

@@ -1,5 +1,6 @@
 -- `powers::bad_computing` meets its contract. The power and its two products in their order: each return rewrites the definition by the tests before it.
 -- Assumes nothing.
+use Prim.Native.Nat.{◌<◌, ◌^◌}
 use Rattle.std.proofs.Common.{rules}
 use native.Mathlib.Omega.{arith}
 use Rattle.powers.specs.Powers.{bad_computing}
@@ -19,9 +20,10 @@ returns-then-passes c = search rules
 
 pub passes-requires-else-passes : goal.passes-requires-else-passes
 passes-requires-else-passes c =
+    let range : c.from.result < 2 ^ 32 = search rules in
     elim c.if-out_of_range.branch [
       | then-out_of_range w ↦ search rules
-      | else-out_of_range w ↦ product_ready c.out_of_range.ensures w.if-out_of_range.false (omega (arith, c.wide.ensures.range))
+      | else-out_of_range w ↦ product_ready c.out_of_range.ensures w.if-out_of_range.false (omega (arith, range))
     ]
 
 pub returns-else-passes : goal.returns-else-passes

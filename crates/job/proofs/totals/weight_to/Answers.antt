@@ -1,4 +1,5 @@
-use Prim.Native.Nat.{◌-◌}
+use Prim.Native.Nat.{◌<◌, ◌^◌}
+use borrow.Author.Rules.{rules}
 use mathlib.Core.Path.{◌≡◌, refl}
 use native.Mathlib.Omega.{arith}
 use Rattle.job.specs.Job.{total}
@@ -11,15 +12,15 @@ loop-j-init c = record { to = omega arith; value = refl; range = omega arith }
 
 pub overflow_add-sum : goal.overflow_add-sum
 overflow_add-sum c =
-    let wide = c.wide-sum in
-    omega (arith, wide.ensures.range)
+    let range : c.from-sum.result < 2 ^ 32 = search rules in
+    omega (arith, range)
 
 pub loop-j-preserved : goal.loop-j-preserved
 loop-j-preserved c =
     let args = c.args in
     let loop = c.loop-j in
-    let wide = c.wide-sum in
-    record { to = omega arith; value = omega (arith, total_more args.weights loop.j, wide.ensures.value); range = omega (arith, wide.ensures.range) }
+    let range : c.from-sum.result < 2 ^ 32 = search rules in
+    record { to = omega arith; value = omega (arith, total_more args.weights loop.j, c.from-sum.ensures); range = omega (arith, range) }
 
 pub returns : goal.returns
 returns c =
