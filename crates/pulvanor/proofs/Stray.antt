@@ -12,12 +12,15 @@ use Rattle.refusals.specs.Answers.{answered}
 use Rattle.refusals.proofs.Refusals.{first_goes_on}
 use Rattle.layout.specs.Layout.{layout_conditions}
 use Rattle.sheet.specs.Lookup.{lookup_refusal, found_of}
-use Rattle.sheet.specs.Reading.{sheet_conditions, sheet_refusal, reading_of, Says, Reads}
+use Rattle.sheet.specs.Reading.{sheet_conditions, sheet_refusal, reading_of, Reads}
 use Rattle.extents.specs.Stray.{HasStray}
 use Rattle.layout.specs.Whole.{conditions_to5}
-use Rattle.sheet.specs.declared.Reading.{Reading}
-use Rattle.sheet.specs.declared.Reading.TheVariants.{Accepted, Refused}
-use Rattle.sheet.proofs.Readings.{sheet_numbered}
+use Rattle.std.proofs.Common.{Result, Ok, Err}
+use Rattle.refusals.specs.declared.Refusal.{Refusal}
+use Rattle.refusals.specs.declared.Refusal.TheVariants.{StrayByte}
+use Rattle.refusals.proofs.Checks.{number_once}
+use Rattle.job.specs.declared.Job.{Job}
+use Rattle.sheet.proofs.Readings.{sheet_numbered, reading_number}
 use Rattle.layout.proofs.Before.{before_and_now}
 use Rattle.joining.specs.Join.{join_refusal, Joins, JoinRefused}
 use Rattle.joining.specs.declared.Joined.{Joined}
@@ -48,10 +51,9 @@ module _ (s : List ℕ) (clear : first (conditions_to5 s) ≡ 0) (found : HasStr
   unfolding lookup_refusal
   of_lookup k = given _
 
-  of_reading : (r : Reading) → Reads s r → r ≡ Refused Numbers.stray_byte
-  unfolding Says
-  of_reading (Accepted v) reads = absurd (omega (arith, of_sheet, reads.0))
-  of_reading (Refused number) reads = ap Refused (sym reads.0 ∙ of_sheet)
+  of_reading : (r : Result Job Refusal) → Reads s r → r ≡ Err StrayByte
+  of_reading (Ok job) reads = absurd (omega (arith, of_sheet, reading_number s, reads.0))
+  of_reading (Err refusal) reads = ap (λ (r : Refusal). Err r) (number_once refusal StrayByte (sym reads ∙ (reading_number s ∙ of_sheet)))
 
   of_price : (marks : List ℕ) → price_refusal s marks ≡ Numbers.stray_byte
   unfolding price_refusal

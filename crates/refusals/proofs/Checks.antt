@@ -2,7 +2,8 @@
 use Prim.Native.Nat.{ℕ, zero, suc, ◌<◌}
 use mathlib.Core.Path.{◌≡◌, refl, sym, ◌∙◌, ap}
 use native.Mathlib.Omega.{arith}
-use mathlib.Core.Bool.{true, false, false≢true}
+use mathlib.Core.Bool.{true, false, cond, false≢true}
+use lib.Dec.{eqb}
 use Rattle.std.specs.Result.{IsErr, is_err}
 use Rattle.std.proofs.Common.{Result, Ok, Err}
 use mathlib.Core.List.{List, ◌++◌}
@@ -81,3 +82,61 @@ told_failed (Err refusal) e = number_positive refusal
 pub told_passed : {A : Type 0} (r : Result A Refusal) → is_err r ≡ false → told r ≡ 0
 told_passed (Ok a) e = refl
 told_passed (Err refusal) e = absurd (false≢true (sym e))
+
+-- each number is that of one refusal
+numbered : ℕ → Refusal
+numbered n =
+    (cond (eqb n 1) BadLength
+    (cond (eqb n 2) BadForm
+    (cond (eqb n 3) BadCount
+    (cond (eqb n 4) BadSections
+    (cond (eqb n 5) BadExtents
+    (cond (eqb n 6) BadKinds
+    (cond (eqb n 7) BadValue
+    (cond (eqb n 8) BadTask
+    (cond (eqb n 9) BadMarks
+    (cond (eqb n 10) BadStretch
+    (cond (eqb n 11) ShortBuffer
+    (cond (eqb n 12) BadRecord
+    (cond (eqb n 13) TooSlow
+    (cond (eqb n 21) Broken
+    (cond (eqb n 22) Finished
+    (cond (eqb n 23) OutOfTurn
+    (cond (eqb n 24) OverWeight
+    (cond (eqb n 25) OverTotal
+    (cond (eqb n 26) OtherPlatform
+    (cond (eqb n 27) LongChain
+    (cond (eqb n 28) StrayByte
+    (cond (eqb n 29) BadPower
+    (cond (eqb n 30) NotHeld
+    NamesFull)))))))))))))))))))))))
+
+numbered_number : (r : Refusal) → numbered (number r) ≡ r
+unfolding numbered
+numbered_number BadLength = refl
+numbered_number BadForm = refl
+numbered_number BadCount = refl
+numbered_number BadSections = refl
+numbered_number BadExtents = refl
+numbered_number BadKinds = refl
+numbered_number BadValue = refl
+numbered_number BadTask = refl
+numbered_number BadMarks = refl
+numbered_number BadStretch = refl
+numbered_number ShortBuffer = refl
+numbered_number BadRecord = refl
+numbered_number TooSlow = refl
+numbered_number Broken = refl
+numbered_number Finished = refl
+numbered_number OutOfTurn = refl
+numbered_number OverWeight = refl
+numbered_number OverTotal = refl
+numbered_number OtherPlatform = refl
+numbered_number LongChain = refl
+numbered_number StrayByte = refl
+numbered_number BadPower = refl
+numbered_number NotHeld = refl
+numbered_number NamesFull = refl
+
+pub number_once : (r q : Refusal) → number r ≡ number q → r ≡ q
+number_once r q e = sym (numbered_number r) ∙ (ap numbered e ∙ numbered_number q)
