@@ -2,14 +2,14 @@
 #![tactic(auto)]
 
 ghost use Rattle.std.specs.Prelude.{◌≡◌, not, eqb};
-ghost use Rattle.following.specs.Run.{answered, out_of_turn};
-ghost use Rattle.following.specs.Working.Lent.{lent_run, OverWeight, carrying, arrived, ReadyForEvent, Moves};
+ghost use Rattle.following.specs.Run.{stepped, out_of_turn};
+ghost use Rattle.following.specs.Working.Lent.{lent_run, OverWeight, carrying, ReadyForEvent, Moves};
 
 use carried::{Carried, Saved, over_mark};
 use events::{Event, after_done, after_failed, after_passed, after_stopped};
 use job::Platform;
 use job::totals::wide;
-use refusals::{ACCEPTED, FINISHED, OUT_OF_TURN, OVER_TOTAL, OVER_WEIGHT};
+use refusals::{ACCEPTED, Refusal};
 use rules::positions::{mark_at, weight_at};
 use rules::{finished, over_total};
 use state::{Place, Run};
@@ -22,17 +22,20 @@ pub struct Stepped {
     pub run: Run,
 }
 
-// The answer to an event: 0 and what is carried on, or the refusal.
-#[derive(Clone, Copy)]
-pub struct Moved {
-    pub number: u64,
-    pub carried: Carried,
-}
-
-pub fn answered(number: u64, run: Run) -> Stepped
-    ensures { result ≡ answered number run }
+// The answer that tells a run or a refusal, which hands back the run from before.
+pub fn answered(before: Run, after: Result<Run, Refusal>) -> Stepped
+    ensures { result ≡ stepped before after }
 {
-    Stepped { number, run }
+    match after {
+        Ok(run) => Stepped {
+            number: ACCEPTED,
+            run,
+        },
+        Err(refusal) => Stepped {
+            number: refusal.number(),
+            run: before,
+        },
+    }
 }
 
 // 23: Done or Stopped while a verification is awaited, Passed or Failed otherwise.
@@ -69,23 +72,6 @@ fn carrying(place: Place, memory: Saved, disk: Saved) -> Carried
     }
 }
 
-// The run arrives at the next place, unless the new total would pass the limit.
-fn arrived(before: Carried, next: Carried) -> Moved
-    ensures { result ≡ arrived before next }
-{
-    let place = next.place;
-    if over_total(place.sums) {
-        return Moved {
-            number: OVER_TOTAL,
-            carried: before,
-        };
-    }
-    Moved {
-        number: ACCEPTED,
-        carried: next,
-    }
-}
-
 // One event of a run that 21 accepts: what is carried on, or the first refusal among 22 to 25. A passed mark may save copies, and a stop loses what memory held after
 // the last disk copy.
 pub fn step(
@@ -95,7 +81,7 @@ pub fn step(
     marks: &[u8],
     carried: Carried,
     event: Event,
-) -> Moved
+) -> Result<Carried, Refusal>
     requires { ReadyForEvent (lent_run tasks platform weights.now marks.now carried) carried }
     ensures { Moves (lent_run tasks platform weights.now marks.now carried) event result }
 {
@@ -103,43 +89,26 @@ pub fn step(
     let memory = carried.memory;
     let disk = carried.disk;
     if finished(tasks, place) {
-        return Moved {
-            number: FINISHED,
-            carried,
-        };
+        return Err(Refusal::Finished);
     }
     if out_of_turn(place.awaiting, event) {
-        return Moved {
-            number: OUT_OF_TURN,
-            carried,
-        };
+        return Err(Refusal::OutOfTurn);
     }
     if over_weight(weights, place.position, event) {
-        return Moved {
-            number: OVER_WEIGHT,
-            carried,
-        };
+        return Err(Refusal::OverWeight);
     }
-    match event {
-        Event::Done => arrived(
+    let next = match event {
+        Event::Done => carrying(after_done(weights, marks, place), memory, disk),
+        Event::Passed => over_mark(
+            mark_at(marks, place.position),
             carried,
-            carrying(after_done(weights, marks, place), memory, disk),
+            after_passed(platform, marks, place),
         ),
-        Event::Passed => arrived(
-            carried,
-            over_mark(
-                mark_at(marks, place.position),
-                carried,
-                after_passed(platform, marks, place),
-            ),
-        ),
-        Event::Failed => arrived(
-            carried,
-            carrying(after_failed(platform, place, memory), memory, disk),
-        ),
-        Event::Stopped(lost) => arrived(
-            carried,
-            carrying(after_stopped(platform, place, disk, lost), disk, disk),
-        ),
+        Event::Failed => carrying(after_failed(platform, place, memory), memory, disk),
+        Event::Stopped(lost) => carrying(after_stopped(platform, place, disk, lost), disk, disk),
+    };
+    if over_total(next.place.sums) {
+        return Err(Refusal::OverTotal);
     }
+    Ok(next)
 }

@@ -1,18 +1,18 @@
 -- A step over lent weights and marks, from a state that 21 accepts.
-use Rattle.std.specs.Prelude.{ℕ, ◌≡◌, Bool, false, cond, List, eqb}
-use Rattle.refusals.specs.Numbers
+use Rattle.std.specs.Prelude.{ℕ, ◌≡◌, Bool, false, cond, List, eqb, Result, IfOk}
+use Rattle.refusals.specs.Checks.{told}
+use Rattle.refusals.specs.declared.Refusal.{Refusal}
 use Rattle.refusals.specs.Refusals.{first}
 use Rattle.job.specs.declared.Platform.{Platform}
 use Rattle.state.specs.declared.Place.{Place}
 use Rattle.state.specs.declared.Run.{Run}
-use Rattle.rules.specs.Rules.{over_total, broken}
+use Rattle.rules.specs.Rules.{broken}
 use Rattle.carried.specs.Working.Carried.{Carries}
 use Rattle.carried.specs.declared.Saved.{Saved}
 use Rattle.carried.specs.declared.Carried.{Carried}
 use Rattle.events.specs.declared.Event.{Event}
 use Rattle.following.specs.Run.{over_weight, event_conditions, next_place, standing, accepted, refused}
 use Rattle.following.specs.declared.Stepped.{Stepped}
-use Rattle.following.specs.declared.Moved.{Moved}
 
 -- the state that is lent in parts
 abbrev pub lent_run : (tasks : ℕ) → Platform → (weights marks : List ℕ) → Carried → Run
@@ -25,13 +25,6 @@ OverWeight weights position event r = (run : Run) → run.job.weights ≡ weight
 
 abbrev pub carrying : Place → (memory disk : Saved) → Carried
 carrying place memory disk = record { place = place; memory = memory; disk = disk }
-
-abbrev pub moved : ℕ → Carried → Moved
-moved number carried = record { number = number; carried = carried }
-
--- what is carried where the run arrives, unless the new total would pass the limit
-abbrev pub arrived : (before next : Carried) → Moved
-arrived before next = cond (over_total next.place.sums) (moved Numbers.over_total before) (moved Numbers.accepted next)
 
 -- a state that 21 accepts, and what is carried of it
 pub record ReadyForEvent (run : Run) (c : Carried) : Type 0 where
@@ -46,7 +39,7 @@ event_refusal run event = first (event_conditions run event)
 unfoldable pub step_on : Run → Event → Stepped
 step_on run event = cond (eqb (event_refusal run event) 0) (accepted (standing run (next_place run event))) (refused (event_refusal run event) run)
 
--- the answer of a step: its number, and what is carried on of the next state
-pub record Moves (run : Run) (event : Event) (m : Moved) : Type 0 where
-  pub number : m.number ≡ event_refusal run event
-  pub carries : m.number ≡ 0 → Carries (standing run (next_place run event)) m.carried
+-- the answer of a step: what is carried on of the next state, or the refusal
+pub record Moves (run : Run) (event : Event) (m : Result Carried Refusal) : Type 0 where
+  pub number : told m ≡ event_refusal run event
+  pub carries : IfOk m (λ next. Carries (standing run (next_place run event)) next)
