@@ -156,7 +156,7 @@ module _ (run : Run) (log : List ℕ) where
       go (yes z) = rw (eq-eqb _ _ z, right, none z) none_on
       go (no z) = rw (ne_eqb _ _ z, tested_once run log right (record_count log))
 
-refusal_stays : (n m : ℕ) → 0 < n → n ≡ m → m ≡ 0 → ⊥
+pub refusal_stays : (n m : ℕ) → 0 < n → n ≡ m → m ≡ 0 → ⊥
 refusal_stays n m h e z = omega (arith, h, e, z)
 
 -- where the records lead, refused or accepted

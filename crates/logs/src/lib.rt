@@ -133,7 +133,7 @@ pub fn check_before(run: Run, log: &[u8]) -> Result<(), Refusal>
 }
 
 // The records of a log, read and applied in turn: the run after them, or the first refusal.
-fn after_log(run: Run, log: &[u8]) -> Result<Run, Refusal>
+pub fn after_log(run: Run, log: &[u8]) -> Result<Run, Refusal>
     ensures { stepped run result ≡ log_of run log.now }
 {
     check_before(run, log)?;
