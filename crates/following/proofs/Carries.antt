@@ -5,7 +5,7 @@ use mathlib.Core.Bool.{Bool, true, false, cond}
 use mathlib.Core.List.{List}
 use native.Mathlib.Omega.{arith}
 use borrow.Author.Tests.{not-false}
-use Rattle.std.proofs.Common.{Ok, Err}
+use Rattle.std.specs.Prelude.{Ok, Err}
 use Rattle.refusals.specs.declared.Refusal.TheVariants.{OverTotal}
 use Rattle.chain.specs.Time.{Marks, memory, disk}
 use Rattle.chain.proofs.Equations.{last_le}
@@ -20,7 +20,7 @@ use Rattle.events.specs.Working.After.{KeptTo, AfterDone, AfterPassed, AfterFail
 use Rattle.carried.specs.Working.Carried.{SavedBefore, Carries, over_mark}
 use Rattle.carried.proofs.Copies.{done_copy, saved_stays, saved_over, saved_failed, saved_back}
 use Rattle.following.specs.Run.{next_place, out_of_turn, over_weight, standing}
-use Rattle.following.specs.Working.Lent.{carrying, arrived, ReadyForEvent, Moves}
+use Rattle.following.specs.Working.Lent.{carrying, ReadyForEvent, Moves}
 use Rattle.following.proofs.Steps.{event_over_total, event_accepted}
 use Rattle.state.specs.declared.Place.{Place}
 use Rattle.state.specs.declared.Run.{Run}
@@ -159,10 +159,10 @@ module _ (run : Run) (c : Carried) (ready : ReadyForEvent run c) where
       })
 
 -- a run that has passed 22 to 24 and arrives: 25 decides
-pub arrived_moves : (run : Run) (e : Event) (next : Carried) → finished run ≡ false → out_of_turn (awaits run.place) e ≡ false → over_weight run e ≡ false
-    → Arrives run e next → Moves run e (arrived next)
-arrived_moves run e next unfinished turn light arrives = go (over_total next.place.sums) refl
-  where
-    go : (b : Bool) → over_total next.place.sums ≡ b → Moves run e (cond b (Err OverTotal) (Ok next))
-    go true o = record { number = event_over_total run e unfinished turn light (rw (← arrives.place) o); carries = tt }
-    go false o = record { number = event_accepted run e unfinished turn light (rw (← arrives.place) o); carries = arrives.carries }
+module _ (run : Run) (e : Event) (next : Carried) (unfinished : finished run ≡ false) (turn : out_of_turn (awaits run.place) e ≡ false)
+    (light : over_weight run e ≡ false) (arrives : Arrives run e next) where
+  pub over_moves : over_total next.place.sums ≡ true → Moves run e (Err OverTotal)
+  over_moves o = record { number = event_over_total run e unfinished turn light (rw (← arrives.place) o); carries = tt }
+
+  pub arrived_moves : over_total next.place.sums ≡ false → Moves run e (Ok next)
+  arrived_moves o = record { number = event_accepted run e unfinished turn light (rw (← arrives.place) o); carries = arrives.carries }

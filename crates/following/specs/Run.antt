@@ -1,7 +1,9 @@
 -- The step of a run from event to event: refusals 21 to 25 of document 01, and the state that follows.
-use Rattle.std.specs.Prelude.{ℕ, Bool, false, not, cond, List, [], ◌∷◌, ltb, eqb}
+use Rattle.std.specs.Prelude.{ℕ, Bool, false, not, cond, List, [], ◌∷◌, ltb, eqb, Result, Ok, Err}
 use Rattle.refusals.specs.Numbers
 use Rattle.refusals.specs.Refusals.{Condition, refusal, first}
+use Rattle.refusals.specs.Checks.{number}
+use Rattle.refusals.specs.declared.Refusal.{Refusal}
 use Rattle.job.specs.Job.{weight_at}
 use Rattle.state.specs.declared.Place.{Place}
 use Rattle.state.specs.declared.Run.{Run}
@@ -58,6 +60,11 @@ accepted run = answered Numbers.accepted run
 
 abbrev pub refused : ℕ → Run → Stepped
 refused number run = answered number run
+
+-- the answer that tells a run, or a refusal and the run from before
+abbrev pub stepped : (before : Run) → Result Run Refusal → Stepped
+stepped before (Ok run) = accepted run
+stepped before (Err refusal) = refused (number refusal) before
 
 -- what a step gives: 0 and the next state, or the first refusal that holds and the state unchanged
 unfoldable pub step_of : Run → Event → Stepped

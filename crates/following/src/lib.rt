@@ -2,13 +2,14 @@
 #![tactic(auto)]
 
 ghost use Rattle.std.specs.Prelude.{◌≡◌, not, eqb};
-ghost use Rattle.following.specs.Run.{answered, out_of_turn};
-ghost use Rattle.following.specs.Working.Lent.{lent_run, OverWeight, carrying, arrived, ReadyForEvent, Moves};
+ghost use Rattle.following.specs.Run.{stepped, out_of_turn};
+ghost use Rattle.following.specs.Working.Lent.{lent_run, OverWeight, carrying, ReadyForEvent, Moves};
 
 use carried::{Carried, Saved, over_mark};
 use events::{Event, after_done, after_failed, after_passed, after_stopped};
 use job::Platform;
-use refusals::Refusal;
+use job::totals::wide;
+use refusals::{ACCEPTED, Refusal};
 use rules::positions::{mark_at, weight_at};
 use rules::{finished, over_total};
 use state::{Place, Run};
@@ -21,10 +22,20 @@ pub struct Stepped {
     pub run: Run,
 }
 
-pub fn answered(number: u64, run: Run) -> Stepped
-    ensures { result ≡ answered number run }
+// The answer that tells a run or a refusal, which hands back the run from before.
+pub fn answered(before: Run, after: Result<Run, Refusal>) -> Stepped
+    ensures { result ≡ stepped before after }
 {
-    Stepped { number, run }
+    match after {
+        Ok(run) => Stepped {
+            number: ACCEPTED,
+            run,
+        },
+        Err(refusal) => Stepped {
+            number: refusal.number(),
+            run: before,
+        },
+    }
 }
 
 // 23: Done or Stopped while a verification is awaited, Passed or Failed otherwise.
@@ -47,7 +58,7 @@ fn over_weight(weights: &[u32], position: usize, event: Event) -> bool
         Event::Done => false,
         Event::Passed => false,
         Event::Failed => false,
-        Event::Stopped(lost) => weight_at(weights, position) < u64::from(lost),
+        Event::Stopped(lost) => weight_at(weights, position) < wide(lost),
     }
 }
 
@@ -59,17 +70,6 @@ fn carrying(place: Place, memory: Saved, disk: Saved) -> Carried
         memory,
         disk,
     }
-}
-
-// The run arrives at the next place, unless the new total would pass the limit.
-fn arrived(next: Carried) -> Result<Carried, Refusal>
-    ensures { result ≡ arrived next }
-{
-    let place = next.place;
-    if over_total(place.sums) {
-        return Err(Refusal::OverTotal);
-    }
-    Ok(next)
 }
 
 // One event of a run that 21 accepts: what is carried on, or the first refusal among 22 to 25. A passed mark may save copies, and a stop loses what memory held after
@@ -107,5 +107,8 @@ pub fn step(
         Event::Failed => carrying(after_failed(platform, place, memory), memory, disk),
         Event::Stopped(lost) => carrying(after_stopped(platform, place, disk, lost), disk, disk),
     };
-    arrived(next)
+    if over_total(next.place.sums) {
+        return Err(Refusal::OverTotal);
+    }
+    Ok(next)
 }

@@ -2,18 +2,19 @@
 -- a step is 22 to 25 alone. Assumes nothing.
 use Prim.Native.Nat.{ℕ, zero, suc, ◌+◌, ◌≤◌, ◌<◌}
 use mathlib.Core.Path.{◌≡◌, refl, sym, ◌∙◌, ap}
-use mathlib.Core.Bool.{Bool, true, false, cond, false≢true}
+use mathlib.Core.Bool.{Bool, true, false, not, cond, false≢true, true≢false}
 use mathlib.Core.List.{List}
 use native.Mathlib.Decide.{ℕ_discrete}
 use native.Mathlib.Numerals.{add-one}
 use native.Mathlib.Omega.{arith}
+use Rattle.std.proofs.Common.{rules}
 use borrow.Author.Tests.{eq-eqb, ne_eqb}
 use lib.Dec.{eqb}
 use lib.ListN.{length}
 use Rattle.refusals.specs.Numbers
 use Rattle.refusals.specs.Refusals.{first}
 use Rattle.rules.specs.Rules.{broken}
-use Rattle.following.specs.Run.{next_place, standing, step_of, answered, accepted, refused}
+use Rattle.following.specs.Run.{next_place, standing, step_of, stepped, accepted, refused}
 use Rattle.following.specs.Working.Lent.{event_refusal, step_on}
 use Rattle.following.proofs.Steps.{step_broken, step_on_lem, step_on_accepted, step_on_refused}
 use Rattle.following.proofs.Unbroken.{step_keeps_sound}
@@ -21,8 +22,14 @@ use Rattle.state.specs.declared.Place.{Place}
 use Rattle.state.specs.declared.Run.{Run}
 use Rattle.events.specs.declared.Event.{Event}
 use Rattle.following.specs.declared.Stepped.{Stepped}
-use Rattle.logs.specs.declared.Outcome.{Outcome}
-use Rattle.logs.specs.Log.{record_count, record_at, bad_record, event_of, recorded, applied, or_before, empty_log, log_of}
+use Rattle.carried.specs.declared.Carried.{Carried}
+use Rattle.std.specs.Prelude.{Result, Ok, Err, Option, Some, None}
+use Rattle.refusals.specs.Checks.{number, told}
+use Rattle.refusals.proofs.Checks.{number_positive}
+use Rattle.std.specs.Option.{is_some}
+use Rattle.std.specs.Result.{IsErr}
+use Rattle.refusals.specs.declared.Refusal.{Refusal}
+use Rattle.logs.specs.Log.{record_count, record_at, bad_record, event_of, read_event, recorded, applied, or_before, empty_log, log_of}
 use Rattle.logs.specs.Working.Once.{bad_first, refusal_before, recorded_on, applied_on, Ends}
 use Rattle.logs.proofs.Records.{recorded_bad, recorded_event, recorded_accepted, applied_suc, applied_stays, applied_first}
 
@@ -149,17 +156,60 @@ module _ (run : Run) (log : List ℕ) where
       go (yes z) = rw (eq-eqb _ _ z, right, none z) none_on
       go (no z) = rw (ne_eqb _ _ z, tested_once run log right (record_count log))
 
+pub refusal_stays : (n m : ℕ) → 0 < n → n ≡ m → m ≡ 0 → ⊥
+refusal_stays n m h e z = omega (arith, h, e, z)
+
 -- where the records lead, refused or accepted
 module _ (run : Run) (log : List ℕ) (k : ℕ) where
   pub ends_refused : (number : ℕ) (state : Run) → applied_on run log k ≡ refused number state → (number ≡ 0 → ⊥) → refused number run ≡ or_before run (applied_on run log k)
   unfolding or_before
   ends_refused number state e z = rw (e, ne_eqb _ _ z)
 
+  pub ends_told : (number : ℕ) (state : Run) → (r : Result Carried Refusal) → IsErr r → ((number ≡ 0 → ⊥) → applied_on run log k ≡ refused number state) → told r ≡ number
+      → Ends run log k r
+  unfolding or_before
+  ends_told n state (Ok carried) failed leads e = absurd (false≢true failed)
+  ends_told n state (Err refusal) failed leads e =
+      let some : n ≡ 0 → ⊥ = λ z. refusal_stays (number refusal) n (number_positive refusal) e z in
+      rw e (ends_refused n state (leads some) some)
+
   pub ends_accepted : (state : Run) → applied_on run log k ≡ accepted state → accepted state ≡ or_before run (applied_on run log k)
   unfolding or_before
   ends_accepted state e = rw e
 
   -- a run that was taken up at its own place
-  pub ends_own : (m : Outcome) (place : Place) → place ≡ run.place → Ends (standing run place) log k m
-      → answered m.number (standing run m.carried.place) ≡ or_before run (applied_on run log k)
+  pub ends_own : (m : Result Carried Refusal) (place : Place) → place ≡ run.place → Ends (standing run place) log k m → Ends run log k m
   ends_own m place own ends = rw (← own) ends
+
+-- what an event that was read tells of its record, and that there is none
+pub read_some : (r : List ℕ) (event : Event) → read_event r ≡ Some event → (bad_record r ≡ false) × (event ≡ event_of r)
+unfolding read_event
+read_some r event e = go (bad_record r) refl e
+  where
+    go : (b : Bool) → bad_record r ≡ b → cond b None (Some (event_of r)) ≡ Some event → (bad_record r ≡ false) × (event ≡ event_of r)
+    go true p q = absurd (search (rules, q))
+    go false p q = (p, search (rules, q))
+
+pub read_none : (r : List ℕ) → read_event r ≡ None → bad_record r ≡ true
+unfolding read_event
+read_none r e = go (bad_record r) refl e
+  where
+    go : (b : Bool) → bad_record r ≡ b → cond b None (Some (event_of r)) ≡ None → bad_record r ≡ true
+    go true p q = p
+    go false p q = absurd (search (rules, q))
+
+pub none_told : (r : List ℕ) (event : Option Event) (b : Bool) → event ≡ read_event r → is_some event ≡ not b → b ≡ bad_record r
+unfolding read_event
+none_told r event b e s = go (bad_record r) b (rw e at s)
+  where
+    go : (a b : Bool) → is_some (cond a None (Some (event_of r))) ≡ not b → b ≡ a
+    go true true q = refl
+    go true false q = absurd (false≢true q)
+    go false true q = absurd (true≢false q)
+    go false false q = refl
+
+-- a log that is refused before its first event, by what its test tells
+pub log_refused_told : (run : Run) (log : List ℕ) (r : Result Run Refusal) → IsErr r → told r ≡ refusal_before run log → stepped run r ≡ log_of run log
+log_refused_told run log (Ok next) failed e = absurd (false≢true failed)
+log_refused_told run log (Err refusal) failed e =
+    rw e (log_refused_before run log (λ z. refusal_stays (number refusal) _ (number_positive refusal) e z))

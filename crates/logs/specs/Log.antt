@@ -1,5 +1,5 @@
 -- The log of a run: records of 5 bytes, refusal 12, and what a log gives.
-use Rattle.std.specs.Prelude.{ℕ, zero, suc, ◌+◌, ◌-◌, ◌*◌, ◌/◌, Bool, not, ◌||◌, ◌&&◌, cond, List, ltb, eqb, length, take, drop}
+use Rattle.std.specs.Prelude.{ℕ, zero, suc, ◌+◌, ◌-◌, ◌*◌, ◌/◌, Bool, not, ◌||◌, ◌&&◌, cond, List, ltb, eqb, length, take, drop, Option, Some, None}
 use Rattle.refusals.specs.Numbers
 use Rattle.fields.specs.Bytes.{byte_at, field_at}
 use Rattle.rules.specs.Rules.{broken}
@@ -54,6 +54,10 @@ event_of r =
     cond (eqb (code r) done_code) Done
     (cond (eqb (code r) passed_code) Passed
     (cond (eqb (code r) failed_code) Failed (Stopped (lost_ticks r))))
+
+-- the event of a record that 12 lets pass
+unfoldable pub read_event : List ℕ → Option Event
+read_event r = cond (bad_record r) None (Some (event_of r))
 
 -- one record more: 12 is tested before 21 to 25, and nothing is read after a refusal
 unfoldable pub recorded : Stepped → List ℕ → Stepped

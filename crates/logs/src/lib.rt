@@ -4,16 +4,17 @@
 ghost use Rattle.std.specs.Prelude.{◌≡◌, ◌<◌, false};
 ghost use Rattle.rules.specs.Rules.{broken};
 ghost use Rattle.following.specs.Working.Lent.{lent_run, ReadyForEvent};
+ghost use Rattle.following.specs.Run.{stepped};
 ghost use Rattle.refusals.specs.Checks.{told};
-ghost use Rattle.logs.specs.Log.{record_count, record_at, bad_record, event_of, or_before, log_of};
-ghost use Rattle.logs.specs.Working.Once.{bad_first, refusal_before, applied_on, ended, Ends};
+ghost use Rattle.logs.specs.Log.{record_count, record_at, read_event, or_before, log_of};
+ghost use Rattle.logs.specs.Working.Once.{bad_first, refusal_before, applied_on, Ends};
 
 use carried::{Carried, taken_up};
 use events::Event;
 use fields::{byte, field};
 use following::{Stepped, answered, step};
 use job::Platform;
-use refusals::{ACCEPTED, Refusal};
+use refusals::Refusal;
 use rules::broken;
 use state::Run;
 
@@ -28,40 +29,31 @@ const FAILED: u64 = 3;
 
 const STOPPED: u64 = 4;
 
-// A record is cut short, has an unknown code, or has lost ticks where 0 is due.
-fn bad_record(entry: &[u8]) -> bool
-    ensures { result ≡ bad_record entry.now }
+// The event of a record, unless it is cut short, has an unknown code, or has lost ticks where 0 is due.
+fn event_of(entry: &[u8]) -> Option<Event>
+    ensures { result ≡ read_event entry.now }
 {
     if entry.len() < RECORD_LENGTH {
-        return true;
+        return None;
     }
     let code = byte(entry, 0);
-    if code < DONE {
-        return true;
-    }
-    if STOPPED < code {
-        return true;
-    }
+    let lost = field(entry, 1);
     if code == STOPPED {
-        return false;
+        return Some(Event::Stopped(lost));
     }
-    field(entry, 1) != 0
-}
-
-fn event_of(entry: &[u8]) -> Event
-    ensures { result ≡ event_of entry.now }
-{
-    let code = byte(entry, 0);
+    if lost != 0 {
+        return None;
+    }
     if code == DONE {
-        return Event::Done;
+        return Some(Event::Done);
     }
     if code == PASSED {
-        return Event::Passed;
+        return Some(Event::Passed);
     }
     if code == FAILED {
-        return Event::Failed;
+        return Some(Event::Failed);
     }
-    Event::Stopped(field(entry, 1))
+    None
 }
 
 // The bytes of record i; the last may be cut short.
@@ -81,27 +73,10 @@ fn record_at(log: &[u8], i: usize) -> &[u8]
 fn bad_first(log: &[u8]) -> bool
     ensures { result ≡ bad_first log.now }
 {
-    if log.len() == 0 {
-        return false;
-    }
-    bad_record(record_at(log, 0))
+    !log.is_empty() && event_of(record_at(log, 0)).is_none()
 }
 
-// The answer to the records of a log: 0 and what is carried at their end, or the number of the refusal and what was carried at the start. The two stand side by side
-// and are no Result, since a refused log hands back a place too (must-fail edits bad_record_place_handed_back, refused_place_handed_back).
-#[derive(Clone, Copy)]
-struct Outcome {
-    number: u64,
-    carried: Carried,
-}
-
-fn ended(number: u64, carried: Carried) -> Outcome
-    ensures { result ≡ ended number carried }
-{
-    Outcome { number, carried }
-}
-
-// The records in turn, from a run that 21 accepts: what is carried at their end, or the first refusal among 12 and 22 to 25 and what was carried at the start.
+// The records in turn, from a run that 21 accepts: what is carried at their end, or the first refusal among 12 and 22 to 25.
 fn applied(
     tasks: usize,
     platform: Platform,
@@ -109,46 +84,43 @@ fn applied(
     marks: &[u8],
     start: Carried,
     log: &[u8],
-) -> Outcome
+) -> Result<Carried, Refusal>
     requires { ReadyForEvent (lent_run tasks platform weights.now marks.now start) start }
     ensures { Ends (lent_run tasks platform weights.now marks.now start) log.now (record_count log.now) result }
 {
-    let count = (log.len() + (RECORD_LENGTH - 1)) / RECORD_LENGTH;
     let mut carried = start;
-    for i in 0..count {
-        let entry = record_at(log, i);
-        if bad_record(entry) {
-            return ended(Refusal::BadRecord.number(), start);
-        }
-        let moved = step(tasks, platform, weights, marks, carried, event_of(entry));
-        match moved {
-            Ok(next) => carried = next,
-            Err(refusal) => return ended(refusal.number(), start),
-        }
+    for i in 0..log.len().div_ceil(RECORD_LENGTH) {
+        let Some(event) = event_of(record_at(log, i)) else {
+            return Err(Refusal::BadRecord);
+        };
+        carried = step(tasks, platform, weights, marks, carried, event)?;
     }
-    ended(ACCEPTED, carried)
+    Ok(carried)
 }
 
-// The log of a run that 21 accepts. Its weights and marks are lent; the first refusal hands back the state from before the log.
-fn followed(run: Run, log: &[u8]) -> Stepped
+// The log of a run that 21 accepts. Its weights and marks are lent.
+fn followed(run: Run, log: &[u8]) -> Result<Run, Refusal>
     requires { broken run ≡ false }
-    ensures { result ≡ or_before run (applied_on run log.now (record_count log.now)) }
+    ensures { stepped run result ≡ or_before run (applied_on run log.now (record_count log.now)) }
 {
-    let tasks = run.job.tasks;
-    let platform = run.job.platform;
     let weights = run.job.weights;
     let marks = run.marks;
     let start = taken_up(run);
-    let end = applied(tasks, platform, &weights[..], &marks[..], start, log);
-    let carried = end.carried;
-    let place = carried.place;
+    let carried = applied(
+        run.job.tasks,
+        run.job.platform,
+        &weights[..],
+        &marks[..],
+        start,
+        log,
+    )?;
     let mut last = run;
-    last.place = place;
-    answered(end.number, last)
+    last.place = carried.place;
+    Ok(last)
 }
 
 // What is tested before the first event, even for an empty log: 12 of the first record, then 21.
-pub fn check_first(run: Run, log: &[u8]) -> Result<(), Refusal>
+pub fn check_before(run: Run, log: &[u8]) -> Result<(), Refusal>
     ensures { told result ≡ refusal_before run log.now }
 {
     if bad_first(log) {
@@ -160,12 +132,17 @@ pub fn check_first(run: Run, log: &[u8]) -> Result<(), Refusal>
     Ok(())
 }
 
-// The records of a log, read and applied in turn: the state after them, or the first refusal and the state from before the log.
+// The records of a log, read and applied in turn: the run after them, or the first refusal.
+pub fn after_log(run: Run, log: &[u8]) -> Result<Run, Refusal>
+    ensures { stepped run result ≡ log_of run log.now }
+{
+    check_before(run, log)?;
+    followed(run, log)
+}
+
+// The same; a refusal hands back the state from before the log.
 pub fn follow(run: Run, log: &[u8]) -> Stepped
     ensures { result ≡ log_of run log.now }
 {
-    if let Err(refusal) = check_first(run, log) {
-        return answered(refusal.number(), run);
-    }
-    followed(run, log)
+    answered(run, after_log(run, log))
 }

@@ -1,7 +1,15 @@
 -- A log from a run with names: 12 of its first record, then 21, then what the log gives of the run, beside the names. Testing 21 of the names once is the same as
 -- testing it at each record: a log leaves them, and the values and marks, as they are. Assumes nothing.
+use Rattle.std.specs.Prelude.{Result, Ok, Err}
+use Rattle.std.specs.Result.{IsErr}
+use Rattle.refusals.specs.Checks.{number, told}
+use Rattle.refusals.specs.declared.Refusal.{Refusal}
+use Rattle.refusals.proofs.Checks.{number_positive}
+use Rattle.logs.proofs.Once.{refusal_stays}
+use Rattle.naming.specs.Calls.{named_stepped}
+use Rattle.following.specs.Run.{stepped}
 use Prim.Native.Nat.{ℕ, zero, suc, ◌<◌}
-use mathlib.Core.Path.{◌≡◌, refl, sym, ◌∙◌}
+use mathlib.Core.Path.{◌≡◌, refl, sym, ◌∙◌, ap}
 use mathlib.Core.Bool.{Bool, true, false, cond, ◌||◌, false≢true}
 use mathlib.Core.List.{List}
 use native.Mathlib.Decide.{ℕ_discrete}
@@ -81,6 +89,10 @@ module _ (state : NamedRun) (log : List ℕ) where
       go false true p q = rw (p, q) (named_broken state log p (rw q))
       go false false p q = absurd (r (rw (p, q)))
 
+  pub named_refused_told : (r : Result NamedRun Refusal) → IsErr r → told r ≡ refusal_before state.run log → named_stepped state r ≡ log_of state log
+  named_refused_told (Ok next) failed e = absurd (false≢true failed)
+  named_refused_told (Err refusal) failed e = rw e (named_refused_before (λ z. refusal_stays (number refusal) _ (number_positive refusal) e z))
+
   -- 21 of the names
   pub named_bad_names : refusal_before state.run log ≡ 0 → bad_names state.run.job (marks_in state.run) state.names ≡ true
       → answered Numbers.broken state ≡ log_of state log
@@ -91,6 +103,13 @@ module _ (state : NamedRun) (log : List ℕ) where
       go true b p q = absurd (omega (arith, rw p at z))
       go false true p q = named_broken state log p (rw q)
       go false false p q = named_broken state log p (rw (q, bad))
+
+-- a refusal of the run is that of the run beside its names
+pub err_beside : (state : NamedRun) (r : Result NamedRun Refusal) (q : Result Run Refusal) → IsErr r → told r ≡ told q
+    → named_stepped state r ≡ beside state.names (stepped state.run q)
+err_beside state (Ok next) q failed e = absurd (false≢true failed)
+err_beside state (Err a) (Ok run) failed e = absurd (refusal_stays (number a) 0 (number_positive a) e refl)
+err_beside state (Err a) (Err b) failed e = ap (λ (n : ℕ). answered n state) e
 
 -- names that keep the rules beside a run
 abbrev Right : Names → Run → Type 0

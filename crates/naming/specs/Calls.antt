@@ -1,6 +1,8 @@
 -- What naming, dropping and returning give, by request 109, for every state and every name: refusals 21, 30 and 31, and the state that follows.
-use Rattle.std.specs.Prelude.{ℕ, Bool, not, ◌&&◌, cond, List, [], ◌∷◌, eqb}
+use Rattle.std.specs.Prelude.{ℕ, Bool, not, ◌&&◌, cond, List, [], ◌∷◌, eqb, Result, Ok, Err}
 use Rattle.refusals.specs.Numbers
+use Rattle.refusals.specs.Checks.{number}
+use Rattle.refusals.specs.declared.Refusal.{Refusal}
 use Rattle.refusals.specs.Refusals.{Condition, refusal, first}
 use Rattle.state.specs.declared.Place.{Place}
 use Rattle.following.specs.Run.{standing}
@@ -25,6 +27,11 @@ at_place state place = record { run = standing state.run place; names = state.na
 -- an answer
 abbrev pub answered : ℕ → NamedRun → NamedStepped
 answered number state = record { number = number; state = state }
+
+-- the answer that tells a state, or a refusal and the state from before
+abbrev pub named_stepped : (before : NamedRun) → Result NamedRun Refusal → NamedStepped
+named_stepped before (Ok state) = answered Numbers.accepted state
+named_stepped before (Err refusal) = answered (number refusal) before
 
 -- 0 and the next state, or the refusal and the state unchanged
 unfoldable pub answer : ℕ → (next state : NamedRun) → NamedStepped

@@ -8,7 +8,7 @@ use Rattle.events.specs.declared.Event.TheVariants.{Failed}
 use Rattle.following.specs.Run.{out_of_turn}
 use Rattle.following.specs.Working.Lent.{lent_run}
 use Rattle.following.proofs.Steps.{event_finished, event_out_of_turn, event_over_weight}
-use Rattle.following.proofs.Carries.{in_range, back_ready, memory_early, disk_early, done_arrives, passed_arrives, failed_arrives, stopped_arrives, arrived_moves}
+use Rattle.following.proofs.Carries.{in_range, back_ready, memory_early, disk_early, done_arrives, passed_arrives, failed_arrives, stopped_arrives, Arrives, over_moves, arrived_moves}
 use Rattle.following.proofs.step.Goals as goal
 use Rattle.following.proofs.step.Goals.{in-Done, in-Passed, in-Failed, in-Stopped}
 
@@ -83,33 +83,54 @@ after_stopped-requires c =
     let turn = rw event at (sym out-of-turn.ensures ∙ if2.false) in
     back_ready run args.carried c.requires _ c.requires.carries.disk_copy.kept (disk_early run args.carried c.requires turn)
 
+pub returns-then-over_total : goal.returns-then-over_total
+unfolding finished
+returns-then-over_total c =
+    let args = c.args in
+    let run = lent_run args.tasks args.platform args.weights.now args.marks.now args.carried in
+    let arrives : Arrives run args.event c.match-event.next = elim c.match-event.branch [
+      | in-Done w ↦
+          let event = w.in-Done.is in
+          let turn = rw event at (sym c.out_of_turn.ensures ∙ c.if-out_of_turn.false) in
+          rw (w.next-is, w.carrying-next.ensures, event) (done_arrives run args.carried c.requires w.after_done.result turn w.after_done.ensures)
+      | in-Passed w ↦
+          let event = w.in-Passed.is in
+          let turn = rw event at (sym c.out_of_turn.ensures ∙ c.if-out_of_turn.false) in
+          rw (w.next-is, w.over_mark-next.ensures, w.mark_at.ensures, event) (passed_arrives run args.carried c.requires w.after_passed.result turn w.after_passed.ensures)
+      | in-Failed w ↦
+          let event = w.in-Failed.is in
+          let turn = rw event at (sym c.out_of_turn.ensures ∙ c.if-out_of_turn.false) in
+          rw (w.next-is, w.carrying-next-in-Failed.ensures, event) (failed_arrives run args.carried c.requires w.after_failed.result turn w.after_failed.ensures)
+      | in-Stopped w ↦
+          let event = w.in-Stopped.is in
+          let turn = rw event at (sym c.out_of_turn.ensures ∙ c.if-out_of_turn.false) in
+          rw (w.next-is, w.carrying-next-in-Stopped.ensures, event) (stopped_arrives run args.carried c.requires w.in-Stopped.lost w.after_stopped.result turn w.after_stopped.ensures)
+    ] in
+    over_moves run args.event c.match-event.next (sym c.finished.ensures ∙ c.if-finished.false) (sym c.out_of_turn.ensures ∙ c.if-out_of_turn.false)
+    (sym (c.over_weight.ensures run refl refl) ∙ c.if-over_weight.false) arrives (sym c.over_total.ensures ∙ c.if-over_total.true)
+
 pub returns : goal.returns
 unfolding finished
 returns c =
     let args = c.args in
     let run = lent_run args.tasks args.platform args.weights.now args.marks.now args.carried in
-    let unfinished = sym c.finished.ensures ∙ c.if-finished.false in
-    let turn = sym c.out_of_turn.ensures ∙ c.if-out_of_turn.false in
-    let light = sym (c.over_weight.ensures run refl refl) ∙ c.if-over_weight.false in
-    elim c.match-event.branch [
+    let arrives : Arrives run args.event c.match-event.next = elim c.match-event.branch [
       | in-Done w ↦
           let event = w.in-Done.is in
-          let turned = rw event at turn in
-          rw (c.arrived.ensures, w.next-is, w.carrying-next.ensures, event)
-          (arrived_moves run _ _ unfinished turned (rw event at light) (done_arrives run args.carried c.requires w.after_done.result turned w.after_done.ensures))
+          let turn = rw event at (sym c.out_of_turn.ensures ∙ c.if-out_of_turn.false) in
+          rw (w.next-is, w.carrying-next.ensures, event) (done_arrives run args.carried c.requires w.after_done.result turn w.after_done.ensures)
       | in-Passed w ↦
           let event = w.in-Passed.is in
-          let turned = rw event at turn in
-          rw (c.arrived.ensures, w.next-is, w.over_mark-next.ensures, w.mark_at.ensures, event)
-          (arrived_moves run _ _ unfinished turned (rw event at light) (passed_arrives run args.carried c.requires w.after_passed.result turned w.after_passed.ensures))
+          let turn = rw event at (sym c.out_of_turn.ensures ∙ c.if-out_of_turn.false) in
+          rw (w.next-is, w.over_mark-next.ensures, w.mark_at.ensures, event) (passed_arrives run args.carried c.requires w.after_passed.result turn w.after_passed.ensures)
       | in-Failed w ↦
           let event = w.in-Failed.is in
-          let turned = rw event at turn in
-          rw (c.arrived.ensures, w.next-is, w.carrying-next-in-Failed.ensures, event)
-          (arrived_moves run _ _ unfinished turned (rw event at light) (failed_arrives run args.carried c.requires w.after_failed.result turned w.after_failed.ensures))
+          let turn = rw event at (sym c.out_of_turn.ensures ∙ c.if-out_of_turn.false) in
+          rw (w.next-is, w.carrying-next-in-Failed.ensures, event) (failed_arrives run args.carried c.requires w.after_failed.result turn w.after_failed.ensures)
       | in-Stopped w ↦
           let event = w.in-Stopped.is in
-          let turned = rw event at turn in
-          rw (c.arrived.ensures, w.next-is, w.carrying-next-in-Stopped.ensures, event)
-          (arrived_moves run _ _ unfinished turned (rw event at light) (stopped_arrives run args.carried c.requires _ w.after_stopped.result turned w.after_stopped.ensures))
-    ]
+          let turn = rw event at (sym c.out_of_turn.ensures ∙ c.if-out_of_turn.false) in
+          rw (w.next-is, w.carrying-next-in-Stopped.ensures, event) (stopped_arrives run args.carried c.requires w.in-Stopped.lost w.after_stopped.result turn w.after_stopped.ensures)
+    ] in
+    arrived_moves run args.event c.match-event.next (sym c.finished.ensures ∙ c.if-finished.false) (sym c.out_of_turn.ensures ∙ c.if-out_of_turn.false)
+    (sym (c.over_weight.ensures run refl refl) ∙ c.if-over_weight.false) arrives (sym c.over_total.ensures ∙ c.if-over_total.false)

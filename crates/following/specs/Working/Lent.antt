@@ -1,13 +1,12 @@
 -- A step over lent weights and marks, from a state that 21 accepts.
-use Rattle.std.specs.Prelude.{ℕ, ◌≡◌, Bool, false, cond, List, eqb, Result, Ok, Err, IfOk}
-use Rattle.refusals.specs.Refusals.{first}
+use Rattle.std.specs.Prelude.{ℕ, ◌≡◌, Bool, false, cond, List, eqb, Result, IfOk}
 use Rattle.refusals.specs.Checks.{told}
 use Rattle.refusals.specs.declared.Refusal.{Refusal}
-use Rattle.refusals.specs.declared.Refusal.TheVariants.{OverTotal}
+use Rattle.refusals.specs.Refusals.{first}
 use Rattle.job.specs.declared.Platform.{Platform}
 use Rattle.state.specs.declared.Place.{Place}
 use Rattle.state.specs.declared.Run.{Run}
-use Rattle.rules.specs.Rules.{over_total, broken}
+use Rattle.rules.specs.Rules.{broken}
 use Rattle.carried.specs.Working.Carried.{Carries}
 use Rattle.carried.specs.declared.Saved.{Saved}
 use Rattle.carried.specs.declared.Carried.{Carried}
@@ -27,10 +26,6 @@ OverWeight weights position event r = (run : Run) → run.job.weights ≡ weight
 abbrev pub carrying : Place → (memory disk : Saved) → Carried
 carrying place memory disk = record { place = place; memory = memory; disk = disk }
 
--- what is carried where the run arrives, unless the new total would pass the limit
-abbrev pub arrived : (next : Carried) → Result Carried Refusal
-arrived next = cond (over_total next.place.sums) (Err OverTotal) (Ok next)
-
 -- a state that 21 accepts, and what is carried of it
 pub record ReadyForEvent (run : Run) (c : Carried) : Type 0 where
   pub unbroken : broken run ≡ false
@@ -44,7 +39,7 @@ event_refusal run event = first (event_conditions run event)
 unfoldable pub step_on : Run → Event → Stepped
 step_on run event = cond (eqb (event_refusal run event) 0) (accepted (standing run (next_place run event))) (refused (event_refusal run event) run)
 
--- the answer of a step: its number, and what is carried on of the next state
-pub record Moves (run : Run) (event : Event) (r : Result Carried Refusal) : Type 0 where
-  pub number : told r ≡ event_refusal run event
-  pub carries : IfOk r (Carries (standing run (next_place run event)))
+-- the answer of a step: what is carried on of the next state, or the refusal
+pub record Moves (run : Run) (event : Event) (m : Result Carried Refusal) : Type 0 where
+  pub number : told m ≡ event_refusal run event
+  pub carries : IfOk m (λ next. Carries (standing run (next_place run event)) next)

@@ -10,10 +10,9 @@ use Rattle.carried.specs.declared.Carried.{Carried}
 use Rattle.logs.specs.Working.Once.{applied_on}
 use Rattle.logs.proofs.applied.Given as goal
 
-pub record Followed (run : Run) (log : List ℕ) (count : ℕ) (carried : Carried) (i : ℕ) : Type 0 where
-  pub within : i ≤ count
+pub record Followed (run : Run) (log : List ℕ) (carried : Carried) (i : ℕ) : Type 0 where
   pub leads : applied_on run log i ≡ accepted (standing run carried.place)
   pub ready : ReadyForEvent (standing run carried.place) carried
 
 abbrev pub invariant-loop-i : goal.invariant-loop-i
-invariant-loop-i l = Followed (lent_run l.tasks l.platform l.weights l.marks l.start) l.log l.count l.carried l.i
+invariant-loop-i l = Followed (lent_run l.tasks l.platform l.weights l.marks l.fn.start) l.log l.carried l.i

@@ -1,22 +1,30 @@
 -- `logs::bad_first` meets its contract. A log with a byte has a first record. Assumes nothing.
+use mathlib.Core.Path.{◌≡◌, refl, sym, ◌∙◌}
+use mathlib.Core.Bool.{true, false}
 use native.Mathlib.Omega.{arith}
-use borrow.Author.Tests.{eq-eqb, ne_eqb}
+use borrow.Author.Tests.{eq-eqb, ne_eqb, eqb-false}
+use lib.Dec.{eqb}
+use lib.ListN.{length}
+use Rattle.std.proofs.Common.{rules}
 use Rattle.logs.specs.Log.{record_count}
 use Rattle.logs.specs.Working.Once.{bad_first}
+use Rattle.logs.proofs.Once.{none_told}
 use Rattle.logs.proofs.bad_first.Goals as goal
-
-pub returns-then-log-eq0 : goal.returns-then-log-eq0
-unfolding bad_first
-returns-then-log-eq0 c = rw (eq-eqb _ _ c.if-log-eq0.true)
 
 pub record_at-requires : goal.record_at-requires
 unfolding record_count
-record_at-requires c = omega (arith, c.if-log-eq0.false)
+record_at-requires c =
+    let some : eqb (length c.args.log.now) 0 ≡ false = sym c.is_empty.ensures ∙ c.if-not-is_empty.true in
+    omega (arith, eqb-false _ _ some)
 
-pub returns : goal.returns
+pub returns-then-not-is_empty : goal.returns-then-not-is_empty
 unfolding bad_first
-returns c =
-    let tested = c.bad_record in
-    let record-at = c.record_at in
-    let if1 = c.if-log-eq0 in
-    rw (ne_eqb _ _ if1.false, ← record-at.ensures) tested.ensures
+returns-then-not-is_empty c =
+    let some : eqb (length c.args.log.now) 0 ≡ false = sym c.is_empty.ensures ∙ c.if-not-is_empty.true in
+    rw (some, ← c.record_at.ensures) (none_told _ _ _ c.event_of.ensures c.is_none.ensures)
+
+pub returns-else-not-is_empty : goal.returns-else-not-is_empty
+unfolding bad_first
+returns-else-not-is_empty c =
+    let empty : eqb (length c.args.log.now) 0 ≡ true = sym c.is_empty.ensures ∙ c.if-not-is_empty.false in
+    rw (empty, c.if-not-is_empty.false)

@@ -1,14 +1,15 @@
 -- A log where 21 is not asked: its records are tested for 12, then for 22 to 25.
-use Rattle.std.specs.Prelude.{ℕ, zero, suc, ◌≡◌, Bool, not, ◌&&◌, cond, List, [], ◌∷◌, eqb, length}
+use Rattle.std.specs.Prelude.{ℕ, zero, suc, ◌≡◌, Bool, not, ◌&&◌, cond, List, [], ◌∷◌, eqb, length, Result, Ok, Err}
 use Rattle.refusals.specs.Numbers
 use Rattle.refusals.specs.Refusals.{refusal, first}
 use Rattle.rules.specs.Rules.{broken}
-use Rattle.following.specs.Run.{standing, answered, accepted, refused}
+use Rattle.following.specs.Run.{standing, accepted, refused}
 use Rattle.following.specs.Working.Lent.{step_on}
 use Rattle.state.specs.declared.Run.{Run}
 use Rattle.following.specs.declared.Stepped.{Stepped}
 use Rattle.carried.specs.declared.Carried.{Carried}
-use Rattle.logs.specs.declared.Outcome.{Outcome}
+use Rattle.refusals.specs.Checks.{number}
+use Rattle.refusals.specs.declared.Refusal.{Refusal}
 use Rattle.logs.specs.Log.{record_at, bad_record, event_of, or_before}
 
 -- 12 of the first record
@@ -28,10 +29,7 @@ unfoldable pub applied_on : Run → List ℕ → ℕ → Stepped
 applied_on run log zero = accepted run
 applied_on run log (suc k) = recorded_on (applied_on run log k) (record_at log k)
 
--- the answer to the records: a number, and what is carried
-abbrev pub ended : ℕ → Carried → Outcome
-ended number carried = record { number = number; carried = carried }
-
--- the records before k lead to this number and place; refused, to the place from before them
-abbrev pub Ends : Run → List ℕ → (k : ℕ) → Outcome → Type 0
-Ends run log k m = answered m.number (standing run m.carried.place) ≡ or_before run (applied_on run log k)
+-- the records before k lead to this place, or to this refusal of the run from before them
+abbrev pub Ends : Run → List ℕ → (k : ℕ) → Result Carried Refusal → Type 0
+Ends run log k (Ok carried) = accepted (standing run carried.place) ≡ or_before run (applied_on run log k)
+Ends run log k (Err refusal) = refused (number refusal) run ≡ or_before run (applied_on run log k)

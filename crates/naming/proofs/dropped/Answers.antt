@@ -1,32 +1,32 @@
--- `naming::name` meets its contract. Assumes nothing.
+-- `naming::dropped` meets its contract. Assumes nothing.
 use mathlib.Core.Path.{sym, ◌∙◌}
 use Rattle.std.proofs.Common.{◌≡◌, length, arith}
 use Rattle.names.specs.Names.{name_limit}
 use Rattle.names.specs.declared.Held.{Held}
 use Rattle.named.proofs.Passed.{named_few}
-use Rattle.naming.proofs.Answers.{name_broken, ready_to_put, name_full, name_put}
-use Rattle.naming.proofs.name.Goals as goal
+use Rattle.naming.proofs.Answers.{drop_broken, ready_to_take, drop_unheld, drop_held}
+use Rattle.naming.proofs.dropped.Goals as goal
 
 pub returns-then-broken_named : goal.returns-then-broken_named
-returns-then-broken_named c = c.answered.ensures ∙ name_broken _ _ (sym c.broken_named.ensures ∙ c.if-broken_named.true)
+returns-then-broken_named c = drop_broken _ _ (sym c.broken_named.ensures ∙ c.if-broken_named.true)
 
 pub slot_of-slot-requires : goal.slot_of-slot-requires
 slot_of-slot-requires c = named_few _ (sym c.broken_named.ensures ∙ c.if-broken_named.false)
 
-pub returns-then-slot-eq-NAME_LIMIT : goal.returns-then-slot-eq-NAME_LIMIT
-returns-then-slot-eq-NAME_LIMIT c =
+pub returns-then-slot-names : goal.returns-then-slot-names
+returns-then-slot-names c =
     let state = c.args.state in
     let right = sym c.broken_named.ensures ∙ c.if-broken_named.false in
     let long : length state.names.entries ≡ name_limit = omega arith in
-    c.answered-then-slot-eq-NAME_LIMIT.ensures ∙ name_full state _ right long (sym c.slot_of-slot.ensures ∙ c.if-slot-eq-NAME_LIMIT.true)
+    drop_unheld state _ right long (sym c.slot_of-slot.ensures ∙ c.if-slot-names.true)
 
-pub put-held-requires : goal.put-held-requires
-put-held-requires c =
+pub take_out-held-requires : goal.take_out-held-requires
+take_out-held-requires c =
     let state = c.args.state in
     let right = sym c.broken_named.ensures ∙ c.if-broken_named.false in
     let long : length state.names.entries ≡ name_limit = omega arith in
     let slot = c.slot_of-slot.ensures in
-    rw slot (ready_to_put state _ right long (λ e. c.if-slot-eq-NAME_LIMIT.false (slot ∙ e)))
+    rw slot (ready_to_take state _ right long (λ e. c.if-slot-names.false (slot ∙ e)))
 
 pub returns : goal.returns
 returns c =
@@ -34,4 +34,4 @@ returns c =
     let right = sym c.broken_named.ensures ∙ c.if-broken_named.false in
     let long : length state.names.entries ≡ name_limit = omega arith in
     let slot = c.slot_of-slot.ensures in
-    c.answered-2.ensures ∙ rw (c.put-held.ensures, slot) (name_put state _ right long (λ e. c.if-slot-eq-NAME_LIMIT.false (slot ∙ e)))
+    rw (c.take_out-held.ensures, slot) (drop_held state _ right long (λ e. c.if-slot-names.false (slot ∙ e)))
