@@ -8,7 +8,6 @@ ghost use Rattle.events.specs.Working.After.{back_at, AfterDone, AfterPassed, Af
 use carried::Saved;
 use charges::{rd_of, rm_of, saves_paid, v_of, verify_paid};
 use job::Platform;
-use job::totals::wide;
 use rules::positions::{mark_at, weight_at};
 use state::{Place, Sums};
 
@@ -97,7 +96,7 @@ pub fn after_stopped(platform: Platform, place: Place, disk: Saved, lost: u32) -
     ensures { AfterStopped platform place disk lost result }
 {
     let mut sums = place.sums;
-    sums.redone += wide(lost);
+    sums.redone += u64::from(lost);
     sums.recovery += rd_of(platform, disk.position);
     back_to(disk, sums)
 }

@@ -8,7 +8,6 @@ ghost use Rattle.following.specs.Working.Lent.{lent_run, OverWeight, carrying, R
 use carried::{Carried, Saved, over_mark};
 use events::{Event, after_done, after_failed, after_passed, after_stopped};
 use job::Platform;
-use job::totals::wide;
 use refusals::{ACCEPTED, Refusal};
 use rules::positions::{mark_at, weight_at};
 use rules::{finished, over_total};
@@ -58,7 +57,7 @@ fn over_weight(weights: &[u32], position: usize, event: Event) -> bool
         Event::Done => false,
         Event::Passed => false,
         Event::Failed => false,
-        Event::Stopped(lost) => weight_at(weights, position) < wide(lost),
+        Event::Stopped(lost) => weight_at(weights, position) < u64::from(lost),
     }
 }
 

@@ -1,5 +1,7 @@
 -- `events::after_stopped` meets its contract. What is kept after the copy is the weight of the tasks after it. Assumes nothing.
+use Prim.Native.Nat.{◌<◌, ◌^◌}
 use native.Mathlib.Omega.{arith}
+use Rattle.std.proofs.Common.{rules}
 use Rattle.job.specs.Job.{between}
 use Rattle.rules.specs.Rules.{total_of}
 use Rattle.events.specs.Events.{back_to_disk}
@@ -8,9 +10,9 @@ use Rattle.events.proofs.after_stopped.Goals as goal
 pub overflow_add-sums : goal.overflow_add-sums
 unfolding total_of
 overflow_add-sums c =
-    let wide = c.wide in
+    let range : c.from.result < 2 ^ 32 = search rules in
     let pre = c.requires in
-    omega (arith, wide.ensures.range, pre.here.sums)
+    omega (arith, range, pre.here.sums)
 
 pub overflow_add-sums-2 : goal.overflow_add-sums-2
 unfolding total_of
@@ -23,13 +25,13 @@ pub back_to-requires : goal.back_to-requires
 unfolding total_of
 back_to-requires c =
     let pre = c.requires in
-    let wide = c.wide in
-    record { kept = pre.kept; fits = omega (arith, wide.ensures.range, pre.here.sums) }
+    let range : c.from.result < 2 ^ 32 = search rules in
+    record { kept = pre.kept; fits = omega (arith, range, pre.here.sums) }
 
 pub returns : goal.returns
 unfolding back_to_disk between
 returns c =
     let back_to = c.back_to in
     let rd-of = c.rd_of in
-    let wide = c.wide in
-    λ job e kept. rw (back_to.ensures, wide.ensures.value, rd-of.ensures.value job e, ← kept.here, ← kept.there)
+    let range : c.from.result < 2 ^ 32 = search rules in
+    λ job e kept. rw (back_to.ensures, c.from.ensures, rd-of.ensures.value job e, ← kept.here, ← kept.there)

@@ -17,7 +17,6 @@ returns-in-Failed c = λ run w p. rw c.in-Failed.is
 pub returns-in-Stopped : goal.returns-in-Stopped
 unfolding over_weight
 returns-in-Stopped c =
-    let wide = c.wide in
     let weight-at = c.weight_at in
     let event = c.in-Stopped in
-    λ run w p. rw (event.is, w, p, weight-at.ensures.value, wide.ensures.value)
+    λ run w p. rw (event.is, w, p, weight-at.ensures.value, c.from.ensures)
