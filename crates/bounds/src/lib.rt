@@ -31,7 +31,7 @@ fn square_at(b: &[u64], n: usize, row: usize, at: usize) -> u64
     b[SQUARE_START + (n + 1) * row + at]
 }
 
-// What is still to come after a memory copy u, with the last disk copy d.
+// What is still to come after a memory copy u, with the last disk copy d. Not one function with `part`: callers would then have to know which of their positions is the row.
 pub fn after(b: &[u64], n: usize, d: usize, u: usize) -> u64
     requires { PlacesFit n b.now d u }
     ensures { result ≡ (bounds_in n b.now).after d u }

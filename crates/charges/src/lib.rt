@@ -7,10 +7,10 @@ ghost use Rattle.units.specs.Limits.{task_limit};
 ghost use Rattle.costs.specs.Costs.{v_at, cm_at, cd_at, rd_at, rm_at, verify_paid, saves_paid};
 ghost use Rattle.charges.specs.Working.Charges.{CostIs, ChargeIs, PaidIs};
 
-use job::{Job, Platform};
+use job::Platform;
 use marks::payments;
 
-// V at v, of the platform's costs alone.
+// V at v.
 pub fn v_of(platform: Platform, v: usize) -> u64
     requires { v ≤ task_limit }
     ensures { ChargeIs 1 platform (λ job. v_at job v) result }
@@ -18,44 +18,20 @@ pub fn v_of(platform: Platform, v: usize) -> u64
     platform.v as u64
 }
 
-// V at v.
-pub fn v_at(job: Job, v: usize) -> u64
-    requires { v ≤ task_limit }
-    ensures { CostIs 1 (v_at job v) result }
-{
-    v_of(job.platform, v)
-}
-
-// C_M at v, of the platform's costs alone.
-fn cm_of(platform: Platform, v: usize) -> u64
+// C_M at v.
+pub fn cm_of(platform: Platform, v: usize) -> u64
     requires { v ≤ task_limit }
     ensures { ChargeIs 1 platform (λ job. cm_at job v) result }
 {
     platform.cm as u64
 }
 
-// C_M at v.
-pub fn cm_at(job: Job, v: usize) -> u64
-    requires { v ≤ task_limit }
-    ensures { CostIs 1 (cm_at job v) result }
-{
-    cm_of(job.platform, v)
-}
-
-// C_D at v, of the platform's costs alone.
-fn cd_of(platform: Platform, v: usize) -> u64
+// C_D at v.
+pub fn cd_of(platform: Platform, v: usize) -> u64
     requires { v ≤ task_limit }
     ensures { ChargeIs 1 platform (λ job. cd_at job v) result }
 {
     platform.cd as u64
-}
-
-// C_D at v.
-pub fn cd_at(job: Job, v: usize) -> u64
-    requires { v ≤ task_limit }
-    ensures { CostIs 1 (cd_at job v) result }
-{
-    cd_of(job.platform, v)
 }
 
 // The cost of going back to a position, or 0 if it is the start.
@@ -68,7 +44,7 @@ fn unless_start(cost: u32, position: usize) -> u64
     cost as u64
 }
 
-// R_D' where d is the last disk copy, of the platform's costs alone: its image is read, and copied back into memory.
+// R_D' where d is the last disk copy: its image is read, and copied back into memory.
 pub fn rd_of(platform: Platform, d: usize) -> u64
     requires { d ≤ task_limit }
     ensures { ChargeIs 2 platform (λ job. rd_at job d) result }
@@ -76,28 +52,12 @@ pub fn rd_of(platform: Platform, d: usize) -> u64
     unless_start(platform.rd, d) + unless_start(platform.rm, d)
 }
 
-// R_D' where d is the last disk copy.
-pub fn rd_at(job: Job, d: usize) -> u64
-    requires { d ≤ task_limit }
-    ensures { CostIs 2 (rd_at job d) result }
-{
-    rd_of(job.platform, d)
-}
-
-// R_M' where m is the last memory copy, of the platform's costs alone.
+// R_M' where m is the last memory copy.
 pub fn rm_of(platform: Platform, m: usize) -> u64
     requires { m ≤ task_limit }
     ensures { ChargeIs 1 platform (λ job. rm_at job m) result }
 {
     unless_start(platform.rm, m)
-}
-
-// R_M' where m is the last memory copy.
-pub fn rm_at(job: Job, m: usize) -> u64
-    requires { m ≤ task_limit }
-    ensures { CostIs 1 (rm_at job m) result }
-{
-    rm_of(job.platform, m)
 }
 
 // The cost, where it is paid.

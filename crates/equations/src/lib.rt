@@ -16,7 +16,7 @@ ghost use Rattle.equations.specs.Equations.{DiskEquation, MemoryEquation, Verifi
 ghost use Rattle.equations.specs.Working.Ready.{lesser, ReadyForGrowths, ReadyForE, ReadyForVerification, ReadyForMemory, ReadyForDisk};
 
 use chain::Factors;
-use charges::{cd_at, cm_at, rd_at, rm_at, v_at};
+use charges::{cd_of, cm_of, rd_of, rm_of, v_of};
 use factors::stretch_factors;
 use job::Job;
 use job::totals::weight_to;
@@ -49,7 +49,7 @@ pub fn e_disk(job: Job, d2: usize) -> Least
     }
     let mut least = Least { time: NONE, at: 0 };
     for d1 in 0..d2 {
-        let time = e_disk(job, d1).time + e_mem(job, d1, d2).time + cd_at(job, d2);
+        let time = e_disk(job, d1).time + e_mem(job, d1, d2).time + cd_of(job.platform, d2);
         least = offer(least, d1, time);
     }
     least
@@ -66,7 +66,7 @@ pub fn e_mem(job: Job, d1: usize, m2: usize) -> Least
     let mut least = Least { time: NONE, at: d1 };
     for m1 in d1..m2 {
         let mem = e_mem(job, d1, m1).time;
-        let time = mem + e_verif(job, d1, m1, mem, m2).time + cm_at(job, m2);
+        let time = mem + e_verif(job, d1, m1, mem, m2).time + cm_of(job.platform, m2);
         least = offer(least, m1, time);
     }
     least
@@ -97,7 +97,7 @@ fn growths(job: Job, v1: usize, v2: usize) -> Factors
 {
     let weights = job.weights;
     let w = weight_to(weights, v2) - weight_to(weights, v1);
-    stretch_factors(job.platform, w, v_at(job, v2))
+    stretch_factors(job.platform, w, v_of(job.platform, v2))
 }
 
 // (4)  E(d1, m1, v1, v2) = e^(λ_s W) ((e^(λ_f W) - 1) / λ_f + V*)
@@ -117,7 +117,7 @@ fn e(job: Job, d1: usize, m1: usize, mem: u64, v1: usize, v2: usize) -> u64
         return NONE;
     }
     f.work
-        + rounded_up((f.both - f.silent) * (rd_at(job, d1) + mem))
+        + rounded_up((f.both - f.silent) * (rd_of(job.platform, d1) + mem))
         + rounded_up((f.both - UNIT) * e_verif(job, d1, m1, mem, v1).time)
-        + rounded_up((f.silent - UNIT) * rm_at(job, m1))
+        + rounded_up((f.silent - UNIT) * rm_of(job.platform, m1))
 }

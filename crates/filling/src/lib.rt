@@ -5,7 +5,7 @@
 ghost use Rattle.std.specs.Prelude.{◌+◌};
 ghost use Rattle.filling.specs.Working.Fill.{PairsTo, TableTo, TableOf, ReadyForCosts, ReadyToFill};
 
-use charges::{cd_at, cm_at, rd_at, rm_at, v_at};
+use charges::{cd_of, cm_of, rd_of, rm_of, v_of};
 use costs::Powers;
 use factors::factors_if_allowed;
 use job::Job;
@@ -23,7 +23,7 @@ fn fill_pairs(t: &mut [u32], powers: Powers, job: Job)
         let mut weight = 0;
         for v in u + 1..n + 1 {
             weight += weights[v - 1] as u64;
-            let f = factors_if_allowed(powers, platform, weight, v_at(job, v));
+            let f = factors_if_allowed(powers, platform, weight, v_of(platform, v));
             put_pair(t, u, v, f);
         }
     }
@@ -34,11 +34,12 @@ fn fill_costs(t: &mut [u32], powers: Powers, job: Job)
     requires { ReadyForCosts powers job t.old }
     ensures { TableTo powers job (job.tasks + 1) t.new }
 {
+    let platform = job.platform;
     for v in 0..job.tasks + 1 {
-        let cm = powers.saving * cm_at(job, v);
-        let cd = powers.saving * cd_at(job, v);
-        let rd = powers.saving * rd_at(job, v);
-        let rm = powers.saving * rm_at(job, v);
+        let cm = powers.saving * cm_of(platform, v);
+        let cd = powers.saving * cd_of(platform, v);
+        let rd = powers.saving * rd_of(platform, v);
+        let rm = powers.saving * rm_of(platform, v);
         put_in_column(t, CM_START, v, cm);
         put_in_column(t, CD_START, v, cd);
         put_in_column(t, RD_START, v, rd);

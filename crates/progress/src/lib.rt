@@ -4,7 +4,7 @@
 ghost use Rattle.progress.specs.Working.Progress.{ReadyForArrival, ReadyForMark, Arrived, Passed};
 
 use chain::{Recoveries, stretch_time};
-use charges::{cd_at, cm_at, rd_at, rm_at, v_at};
+use charges::{cd_of, cm_of, rd_of, rm_of, v_of};
 use factors::stretch_factors;
 use job::Job;
 use marks::payments;
@@ -25,11 +25,11 @@ fn arrival(job: Job, s: Progress, v: usize) -> u64
     requires { ReadyForArrival job s v }
     ensures { Arrived job s v result }
 {
-    let factors = stretch_factors(job.platform, s.weight, v_at(job, v));
-    let disk = rd_at(job, s.d) + s.mt;
+    let factors = stretch_factors(job.platform, s.weight, v_of(job.platform, v));
+    let disk = rd_of(job.platform, s.d) + s.mt;
     let recoveries = Recoveries {
         disk,
-        memory: rm_at(job, s.m),
+        memory: rm_of(job.platform, s.m),
     };
     s.q + stretch_time(factors, recoveries, s.q)
 }
@@ -54,7 +54,7 @@ pub fn past_mark(job: Job, s: Progress, v: usize, mark: u8) -> Progress
             dt: s.dt,
         };
     }
-    let mt = s.mt + q + cm_at(job, v);
+    let mt = s.mt + q + cm_of(job.platform, v);
     if !pays.cd {
         return Progress {
             weight: 0,
@@ -71,6 +71,6 @@ pub fn past_mark(job: Job, s: Progress, v: usize, mark: u8) -> Progress
         d: v,
         q: 0,
         mt: 0,
-        dt: s.dt + mt + cd_at(job, v),
+        dt: s.dt + mt + cd_of(job.platform, v),
     }
 }

@@ -3,10 +3,6 @@ use Rattle.bounds.specs.Working.Bounds.{bounds_in}
 use borrow.Author.Rules.{rules}
 use Rattle.bounds.proofs.beyond.Goals as goal
 
-pub overflow_mul-b : goal.overflow_mul-b
-unfolding bounds_in
-overflow_mul-b c = search rules
-
 pub returns : goal.returns
 unfolding bounds_in
 returns c n = search rules

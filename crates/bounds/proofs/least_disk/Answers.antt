@@ -6,14 +6,6 @@ use Rattle.bounds.specs.Working.Bounds.{bounds_in, apart_in}
 use Rattle.bounds.specs.Working.Bounds.{disk_in}
 use Rattle.bounds.proofs.least_disk.Goals as goal
 
-pub overflow_add-result : goal.overflow_add-result
-unfolding bounds_in
-overflow_add-result c =
-    let column-at = c.column_at in
-    let saturating-sub = c.saturating_sub in
-    let pre = c.requires in
-    rw (column-at.ensures, saturating-sub.ensures) (omega (arith, pre.recovery, pre.time))
-
 pub returns : goal.returns
 unfolding disk_in least_disk apart_in bounds_in
 returns c =

@@ -4,16 +4,6 @@ use native.Mathlib.Omega.{arith}
 use Rattle.bounds.specs.Working.Bounds.{since}
 use Rattle.bounds.proofs.since.Goals as goal
 
-pub least_disk-requires : goal.least_disk-requires
-least_disk-requires c =
-    let pre = c.requires in
-    pre.disk
-
-pub beyond-requires : goal.beyond-requires
-beyond-requires c =
-    let pre = c.requires in
-    record { long = pre.disk.fit.long; few = pre.disk.fit.far; base = pre.base }
-
 pub returns : goal.returns
 unfolding since
 returns c =

@@ -17,13 +17,13 @@ loop-d-preserved c =
     let after = c.after in
     elim c.if-start-after.branch [
       | then-start-after w ↦
-        rw (w.time-is, w.backs-is)
-        (disks_offered _ _ _ _ pre.bounding pre.ends pre.limited _ _ _ loop.invariant (omega arith) _ min.ensures
-        (rw (← after.ensures) w.if-start-after.true) _ _ w.offer_disk.ensures)
+          rw (w.time-is, w.backs-is)
+          (disks_offered _ _ _ _ pre.bounding pre.ends pre.limited _ _ _ loop.invariant (omega arith) _ min.ensures
+          (rw (← after.ensures) w.if-start-after.true) _ _ w.offer_disk.ensures)
       | else-start-after w ↦
-        rw (w.time-is, w.backs-is)
-        (disks_passed _ _ _ _ pre.bounding pre.ends pre.limited _ _ _ loop.invariant (omega arith) _ min.ensures
-        (rw (← after.ensures) w.if-start-after.false))
+          rw (w.time-is, w.backs-is)
+          (disks_passed _ _ _ _ pre.bounding pre.ends pre.limited _ _ _ loop.invariant (omega arith) _ min.ensures
+          (rw (← after.ensures) w.if-start-after.false))
     ]
 
 pub returns : goal.returns

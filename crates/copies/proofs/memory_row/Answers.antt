@@ -47,11 +47,11 @@ loop-m-preserved c =
     let far = c.far-last in
     elim c.if-m-last.branch [
       | then-m-last w ↦
-        rw (w.time-is, w.backs-is)
-        (copies_offered _ _ _ _ _ _ pre.bounding pre.room _ _ _ loop.invariant (omega arith) (omega arith) _ far.ensures w.if-m-last.true _ _ w.offer_memory.ensures)
+          rw (w.time-is, w.backs-is)
+          (copies_offered _ _ _ _ _ _ pre.bounding pre.room _ _ _ loop.invariant (omega arith) (omega arith) _ far.ensures w.if-m-last.true _ _ w.offer_memory.ensures)
       | else-m-last w ↦
-        rw (w.time-is, w.backs-is)
-        (copies_passed _ _ _ _ _ _ pre.bounding pre.room _ _ _ loop.invariant (omega arith) (omega arith) _ far.ensures w.if-m-last.false)
+          rw (w.time-is, w.backs-is)
+          (copies_passed _ _ _ _ _ _ pre.bounding pre.room _ _ _ loop.invariant (omega arith) (omega arith) _ far.ensures w.if-m-last.false)
     ]
 
 pub returns : goal.returns

@@ -1,3 +1,4 @@
+use mathlib.Core.Path.{refl}
 use Prim.Native.Nat.{◌<◌}
 use native.Mathlib.Omega.{arith}
 use Rattle.chain.proofs.Search.{least_d_start}
@@ -12,7 +13,7 @@ pub loop-d1-preserved : goal.loop-d1-preserved
 unfolding chain_of
 loop-d1-preserved t c =
     let loop = c.loop-d1 in
-    rw (c.offer-least.ensures, c.e_disk.ensures.value, c.e_mem.ensures.value, c.cd_at.ensures.value)
+    rw (c.offer-least.ensures, c.e_disk.ensures.value, c.e_mem.ensures.value, (c.cd_of.ensures.value c.args.job refl))
     (offered_more _ _ _ _ _ _ loop.invariant (omega arith))
 
 pub returns : goal.returns

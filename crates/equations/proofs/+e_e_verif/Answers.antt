@@ -1,3 +1,4 @@
+use mathlib.Core.Path.{refl}
 use Prim.Native.Nat.{◌<◌}
 use native.Mathlib.Omega.{arith}
 use Rattle.chain.specs.Working.Factors.{stretch_of}
@@ -30,7 +31,7 @@ e-overflow_mul-f t c =
     let growths = c.growths-f in
     let if1 = c.if-f-eq0 in
     let ready = stretch_ready pre growths.ensures if1.false 0 (omega arith) in
-    rw c.rd_at.ensures.value (omega (arith, disk_product _ _ _ ready))
+    rw (c.rd_of.ensures.value c.args.job refl) (omega (arith, disk_product _ _ _ ready))
 
 pub e-rounded_up-requires : goal.e-rounded_up-requires
 e-rounded_up-requires t c =
@@ -38,7 +39,7 @@ e-rounded_up-requires t c =
     let growths = c.growths-f in
     let if1 = c.if-f-eq0 in
     let ready = stretch_ready pre growths.ensures if1.false 0 (omega arith) in
-    rw c.rd_at.ensures.value (omega (arith, disk_product _ _ _ ready))
+    rw (c.rd_of.ensures.value c.args.job refl) (omega (arith, disk_product _ _ _ ready))
 
 pub e-overflow_add-result : goal.e-overflow_add-result
 e-overflow_add-result t c =
@@ -46,7 +47,7 @@ e-overflow_add-result t c =
     let growths = c.growths-f in
     let if1 = c.if-f-eq0 in
     let ready = stretch_ready pre growths.ensures if1.false 0 (omega arith) in
-    rw (c.rounded_up.ensures, c.rd_at.ensures.value) (omega (arith, ready.factors.work, disk_part _ _ _ ready))
+    rw (c.rounded_up.ensures, (c.rd_of.ensures.value c.args.job refl)) (omega (arith, ready.factors.work, disk_part _ _ _ ready))
 
 pub e-overflow_sub-f-2 : goal.e-overflow_sub-f-2
 e-overflow_sub-f-2 t c =
@@ -82,8 +83,8 @@ e-overflow_add-result-2 t c =
     let e-verif = c.e_verif in
     let ready = stretch_ready pre growths.ensures if1.false e-verif.result.time e-verif.ensures.cap in
     let rounded-up = c.rounded_up in
-    let rd-at = c.rd_at in
-    rw (rounded-up.ensures, rd-at.ensures.value, c.rounded_up-2.ensures)
+    let rd-of = c.rd_of in
+    rw (rounded-up.ensures, (rd-of.ensures.value c.args.job refl), c.rounded_up-2.ensures)
     (omega (arith, ready.factors.work, disk_part _ _ _ ready, again_part _ _ _ ready))
 
 pub e-overflow_sub-f-3 : goal.e-overflow_sub-f-3
@@ -100,7 +101,7 @@ e-overflow_mul-f-3 t c =
     let growths = c.growths-f in
     let if1 = c.if-f-eq0 in
     let ready = stretch_ready pre growths.ensures if1.false 0 (omega arith) in
-    rw c.rm_at.ensures.value (omega (arith, memory_product _ _ _ ready))
+    rw (c.rm_of.ensures.value c.args.job refl) (omega (arith, memory_product _ _ _ ready))
 
 pub e-rounded_up-requires-3 : goal.e-rounded_up-requires-3
 e-rounded_up-requires-3 t c =
@@ -108,7 +109,7 @@ e-rounded_up-requires-3 t c =
     let growths = c.growths-f in
     let if1 = c.if-f-eq0 in
     let ready = stretch_ready pre growths.ensures if1.false 0 (omega arith) in
-    rw c.rm_at.ensures.value (omega (arith, memory_product _ _ _ ready))
+    rw (c.rm_of.ensures.value c.args.job refl) (omega (arith, memory_product _ _ _ ready))
 
 pub e-overflow_add-result-3 : goal.e-overflow_add-result-3
 e-overflow_add-result-3 t c =
@@ -120,9 +121,9 @@ e-overflow_add-result-3 t c =
     let rounded-up = c.rounded_up in
     let rounded-up2 = c.rounded_up-2 in
     let rounded-up3 = c.rounded_up-3 in
-    let rd-at = c.rd_at in
-    let rm-at = c.rm_at in
-    rw (rounded-up.ensures, rd-at.ensures.value, rounded-up2.ensures, rounded-up3.ensures, rm-at.ensures.value)
+    let rd-of = c.rd_of in
+    let rm-of = c.rm_of in
+    rw (rounded-up.ensures, (rd-of.ensures.value c.args.job refl), rounded-up2.ensures, rounded-up3.ensures, (rm-of.ensures.value c.args.job refl))
     (omega (arith, ready.factors.work, disk_part _ _ _ ready, again_part _ _ _ ready, memory_part _ _ _ ready))
 
 pub e-returns : goal.e-returns
@@ -136,10 +137,10 @@ e-returns t c =
     let rounded-up = c.rounded_up in
     let rounded-up2 = c.rounded_up-2 in
     let rounded-up3 = c.rounded_up-3 in
-    let rd-at = c.rd_at in
-    let rm-at = c.rm_at in
+    let rd-of = c.rd_of in
+    let rm-of = c.rm_of in
     let whole = stretch_some pre growths.ensures if1.false in
-    rw (rounded-up.ensures, rd-at.ensures.value, rounded-up2.ensures, rounded-up3.ensures, rm-at.ensures.value)
+    rw (rounded-up.ensures, (rd-of.ensures.value c.args.job refl), rounded-up2.ensures, rounded-up3.ensures, (rm-of.ensures.value c.args.job refl))
     (record {
       value = rw e-verif.ensures.value whole;
       cap = omega (arith, ready.factors.work, disk_part _ _ _ ready, again_part _ _ _ ready, memory_part _ _ _ ready);

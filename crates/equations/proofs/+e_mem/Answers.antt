@@ -1,3 +1,4 @@
+use mathlib.Core.Path.{refl}
 use Prim.Native.Nat.{◌<◌}
 use native.Mathlib.Omega.{arith}
 use Rattle.chain.proofs.Search.{least_m_start}
@@ -13,7 +14,7 @@ unfolding chain_of
 loop-m1-preserved t c =
     let loop = c.loop-m1 in
     let e-mem = c.e_mem-mem in
-    rw (c.offer-least.ensures, c.e_verif.ensures.value, e-mem.ensures.value, c.cm_at.ensures.value)
+    rw (c.offer-least.ensures, c.e_verif.ensures.value, e-mem.ensures.value, (c.cm_of.ensures.value c.args.job refl))
     (offered_more _ _ _ _ _ _ loop.invariant (omega arith))
 
 pub returns : goal.returns

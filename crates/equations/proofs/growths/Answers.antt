@@ -1,5 +1,5 @@
 -- `equations::growths` meets its contract. The weight of the stretch is the difference of two totals. Assumes nothing.
-use mathlib.Core.Path.{◌∙◌}
+use mathlib.Core.Path.{refl, ◌∙◌}
 use native.Mathlib.Omega.{arith}
 use Rattle.job.specs.Job.{between}
 use Rattle.job.proofs.Weights.{total_mono}
@@ -17,10 +17,10 @@ unfolding between
 stretch_factors-requires c =
     let args = c.args in
     let pre = c.requires in
-    rw (c.weight_to.ensures.value, c.weight_to-2.ensures.value, c.v_at.ensures.value)
+    rw (c.weight_to.ensures.value, c.weight_to-2.ensures.value, (c.v_of.ensures.value c.args.job refl))
     (factors_ready args.job pre.sound args.v1 args.v2 pre.end)
 
 pub returns : goal.returns
 unfolding between
 returns c =
-    c.stretch_factors.ensures ∙ rw (c.weight_to.ensures.value, c.weight_to-2.ensures.value, c.v_at.ensures.value)
+    c.stretch_factors.ensures ∙ rw (c.weight_to.ensures.value, c.weight_to-2.ensures.value, (c.v_of.ensures.value c.args.job refl))

@@ -1,5 +1,5 @@
 use Rattle.filling.proofs.Fills.{table_more}
-use mathlib.Core.Path.{◌∙◌}
+use mathlib.Core.Path.{refl, ◌∙◌}
 use native.Mathlib.Omega.{arith}
 use Rattle.costs.proofs.Ranges.{rm_energy, rd_energy, cm_energy, cd_energy}
 use Rattle.filling.proofs.fill_costs.Goals as goal
@@ -8,74 +8,74 @@ pub overflow_mul-cm : goal.overflow_mul-cm
 overflow_mul-cm c =
     let pre = c.requires in
     let loop = c.loop-v in
-    let cm-at = c.cm_at in
-    record { fits = rw cm-at.ensures.value (omega (arith, cm_energy _ _ pre.products loop.v)) }
+    let cm-of = c.cm_of in
+    record { fits = rw (cm-of.ensures.value c.args.job refl) (omega (arith, cm_energy _ _ pre.products loop.v)) }
 
 pub overflow_mul-cd : goal.overflow_mul-cd
 overflow_mul-cd c =
     let pre = c.requires in
     let loop = c.loop-v in
-    let cd-at = c.cd_at in
-    record { fits = rw cd-at.ensures.value (omega (arith, cd_energy _ _ pre.products loop.v)) }
+    let cd-of = c.cd_of in
+    record { fits = rw (cd-of.ensures.value c.args.job refl) (omega (arith, cd_energy _ _ pre.products loop.v)) }
 
 pub overflow_mul-rd : goal.overflow_mul-rd
 overflow_mul-rd c =
     let pre = c.requires in
     let loop = c.loop-v in
-    let rd-at = c.rd_at in
-    record { fits = rw rd-at.ensures.value (omega (arith, rd_energy _ _ pre.products loop.v)) }
+    let rd-of = c.rd_of in
+    record { fits = rw (rd-of.ensures.value c.args.job refl) (omega (arith, rd_energy _ _ pre.products loop.v)) }
 
 pub overflow_mul-rm : goal.overflow_mul-rm
 overflow_mul-rm c =
     let pre = c.requires in
     let loop = c.loop-v in
-    let rm-at = c.rm_at in
-    record { fits = rw rm-at.ensures.value (omega (arith, rm_energy _ _ pre.products loop.v)) }
+    let rm-of = c.rm_of in
+    record { fits = rw (rm-of.ensures.value c.args.job refl) (omega (arith, rm_energy _ _ pre.products loop.v)) }
 
 pub put_in_column-requires : goal.put_in_column-requires
 put_in_column-requires c =
     let pre = c.requires in
     let loop = c.loop-v in
-    let cm-at = c.cm_at in
+    let cm-of = c.cm_of in
     record {
       place = record { long = omega (arith, loop.invariant.table.long); few = omega (arith, pre.sound.few_tasks) };
-      range = rw cm-at.ensures.value (omega (arith, cm_energy _ _ pre.products loop.v));
+      range = rw (cm-of.ensures.value c.args.job refl) (omega (arith, cm_energy _ _ pre.products loop.v));
     }
 
 pub put_in_column-requires-in-loop-v : goal.put_in_column-requires-in-loop-v
 put_in_column-requires-in-loop-v c =
     let pre = c.requires in
     let loop = c.loop-v in
-    let cd-at = c.cd_at in
+    let cd-of = c.cd_of in
     let t = c.t-1 in
     record {
       place = record { long = omega (arith, loop.invariant.table.long, t.given); few = omega (arith, pre.sound.few_tasks) };
-      range = rw cd-at.ensures.value (omega (arith, cd_energy _ _ pre.products loop.v));
+      range = rw (cd-of.ensures.value c.args.job refl) (omega (arith, cd_energy _ _ pre.products loop.v));
     }
 
 pub put_in_column-requires-in-loop-v-2 : goal.put_in_column-requires-in-loop-v-2
 put_in_column-requires-in-loop-v-2 c =
     let pre = c.requires in
     let loop = c.loop-v in
-    let rd-at = c.rd_at in
+    let rd-of = c.rd_of in
     let t = c.t-1 in
     let t2 = c.t-in-loop-v-1 in
     record {
       place = record { long = omega (arith, loop.invariant.table.long, t.given, t2.given); few = omega (arith, pre.sound.few_tasks) };
-      range = rw rd-at.ensures.value (omega (arith, rd_energy _ _ pre.products loop.v));
+      range = rw (rd-of.ensures.value c.args.job refl) (omega (arith, rd_energy _ _ pre.products loop.v));
     }
 
 pub put_in_column-requires-in-loop-v-3 : goal.put_in_column-requires-in-loop-v-3
 put_in_column-requires-in-loop-v-3 c =
     let pre = c.requires in
     let loop = c.loop-v in
-    let rm-at = c.rm_at in
+    let rm-of = c.rm_of in
     let t = c.t-1 in
     let t2 = c.t-in-loop-v-1 in
     let t3 = c.t-in-loop-v-2-1 in
     record {
       place = record { long = omega (arith, loop.invariant.table.long, t.given, t2.given, t3.given); few = omega (arith, pre.sound.few_tasks) };
-      range = rw rm-at.ensures.value (omega (arith, rm_energy _ _ pre.products loop.v));
+      range = rw (rm-of.ensures.value c.args.job refl) (omega (arith, rm_energy _ _ pre.products loop.v));
     }
 
 pub loop-v-preserved : goal.loop-v-preserved
@@ -84,10 +84,10 @@ loop-v-preserved c =
     let args = c.args in
     let loop = c.loop-v in
     let pre = c.requires in
-    let cm-at = c.cm_at in
-    let cd-at = c.cd_at in
-    let rd-at = c.rd_at in
-    let rm-at = c.rm_at in
+    let cm-of = c.cm_of in
+    let cd-of = c.cd_of in
+    let rd-of = c.rd_of in
+    let rm-of = c.rm_of in
     let put-in-column = c.put_in_column in
     let put-in-column2 = c.put_in_column-in-loop-v in
     let put-in-column3 = c.put_in_column-in-loop-v-2 in
@@ -104,10 +104,10 @@ loop-v-preserved c =
             put-in-column3.ensures,
             put-in-column2.ensures,
             put-in-column.ensures,
-            rm-at.ensures.value,
-            rd-at.ensures.value,
-            cd-at.ensures.value,
-            cm-at.ensures.value,
+            (rm-of.ensures.value c.args.job refl),
+            (rd-of.ensures.value c.args.job refl),
+            (cd-of.ensures.value c.args.job refl),
+            (cm-of.ensures.value c.args.job refl),
           )
           table;
       same_long = t4.given ∙ t3.given ∙ t2.given ∙ t.given ∙ loop.invariant.same_long;

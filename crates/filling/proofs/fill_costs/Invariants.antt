@@ -13,4 +13,4 @@ pub record Costs-to (t₀ : List ℕ) (powers : Powers) (job : Job) (t : List �
   pub same_long : length t ≡ length t₀
 
 abbrev pub invariant-loop-v : goal.invariant-loop-v
-invariant-loop-v l = Costs-to l.initial.t l.powers l.job l.t l.v
+invariant-loop-v l = Costs-to l.initial.t l.powers l.fn.job l.t l.v

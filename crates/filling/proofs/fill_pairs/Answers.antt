@@ -33,10 +33,10 @@ overflow_add-weight c =
 
 pub factors_if_allowed-f-requires : goal.factors_if_allowed-f-requires
 factors_if_allowed-f-requires c =
-    let v-at = c.v_at in
+    let v-of = c.v_of in
     let loop2 = c.loop-v in
     let weighed = weighed_here c.requires loop2.invariant (omega arith) (omega arith) in
-    weighed_ready _ _ _ _ _ _ weighed v-at.ensures.value
+    weighed_ready _ _ _ _ _ _ weighed (v-of.ensures.value c.args.job refl)
 
 pub put_pair-requires : goal.put_pair-requires
 put_pair-requires c =
@@ -54,12 +54,12 @@ put_pair-requires c =
 pub loop-v-preserved : goal.loop-v-preserved
 loop-v-preserved c =
     let loop2 = c.loop-v in
-    let v-at = c.v_at in
+    let v-of = c.v_of in
     let factors-if-allowed = c.factors_if_allowed-f in
     let put-pair = c.put_pair in
     let t = c.t-1 in
     let weighed = weighed_here c.requires loop2.invariant (omega arith) (omega arith) in
-    let factors = weighed_factors _ _ _ _ _ _ weighed v-at.ensures.value _ factors-if-allowed.ensures in
+    let factors = weighed_factors _ _ _ _ _ _ weighed (v-of.ensures.value c.args.job refl) _ factors-if-allowed.ensures in
     let next : loop2.v + 1 - 1 ≡ loop2.v = omega arith in
     record {
       running = rw next weighed.sum;

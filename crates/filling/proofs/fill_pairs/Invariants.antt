@@ -20,7 +20,7 @@ pub record Near-to (t₀ : List ℕ) (powers : Powers) (job : Job) (t : List ℕ
   pub same_long : length t ≡ length t₀
 
 abbrev pub invariant-loop-v : goal.invariant-loop-v
-invariant-loop-v l = Pairs-to l.initial.t l.powers l.job l.u l.t l.weight l.v
+invariant-loop-v l = Pairs-to l.initial.t l.powers l.fn.job l.u l.t l.weight l.v
 
 abbrev pub invariant-loop-u : goal.invariant-loop-u
-invariant-loop-u l = Near-to l.initial.t l.powers l.job l.t l.u
+invariant-loop-u l = Near-to l.initial.t l.powers l.fn.job l.t l.u

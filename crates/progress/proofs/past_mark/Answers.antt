@@ -1,5 +1,5 @@
 -- `progress::past_mark` meets its contract. The mark's payments decide, row by row of the table. Assumes nothing.
-use mathlib.Core.Path.{ap, sym, ◌∙◌}
+use mathlib.Core.Path.{refl, ap, sym, ◌∙◌}
 use native.Mathlib.Omega.{arith}
 use borrow.Author.Tests.{not-true, not-false}
 use Rattle.marks.specs.declared.Pays.{Pays}
@@ -36,8 +36,8 @@ returns-then-not-pays-2 c =
       cap = omega (arith, pre.progress.time, arrival.ensures.cap);
     }
 
-pub cm_at-requires : goal.cm_at-requires
-cm_at-requires c =
+pub cm_of-requires : goal.cm_of-requires
+cm_of-requires c =
     let pre = c.requires in
     pre.carried.position
 
@@ -47,19 +47,19 @@ returns-then-not-pays-3 c =
     let if1 = c.if-not-pays in
     let if2 = c.if-not-pays-2 in
     let if3 = c.if-not-pays-3 in
-    let cm-at = c.cm_at in
+    let cm-of = c.cm_of in
     let arrival = c.arrival-q in
     let pre = c.requires in
     let v = ap (λ (x : Pays). x.v) (sym payments.ensures) ∙ not-false _ if1.false in
     let cm = ap (λ (x : Pays). x.cm) (sym payments.ensures) ∙ not-false _ if2.false in
     let cd = ap (λ (x : Pays). x.cd) (sym payments.ensures) ∙ not-true _ if3.true in
     record {
-      value = rw cm-at.ensures.value (past_copied _ _ _ _ v arrival.ensures.value cm cd);
-      cap = omega (arith, pre.progress.time, arrival.ensures.cap, cm-at.ensures.fits);
+      value = rw (cm-of.ensures.value c.args.job refl) (past_copied _ _ _ _ v arrival.ensures.value cm cd);
+      cap = omega (arith, pre.progress.time, arrival.ensures.cap, cm-of.ensures.fits);
     }
 
-pub cd_at-requires : goal.cd_at-requires
-cd_at-requires c =
+pub cd_of-requires : goal.cd_of-requires
+cd_of-requires c =
     let pre = c.requires in
     pre.carried.position
 
@@ -69,14 +69,14 @@ returns c =
     let if1 = c.if-not-pays in
     let if2 = c.if-not-pays-2 in
     let if3 = c.if-not-pays-3 in
-    let cm-at = c.cm_at in
-    let cd-at = c.cd_at in
+    let cm-of = c.cm_of in
+    let cd-of = c.cd_of in
     let arrival = c.arrival-q in
     let pre = c.requires in
     let v = ap (λ (x : Pays). x.v) (sym payments.ensures) ∙ not-false _ if1.false in
     let cm = ap (λ (x : Pays). x.cm) (sym payments.ensures) ∙ not-false _ if2.false in
     let cd = ap (λ (x : Pays). x.cd) (sym payments.ensures) ∙ not-false _ if3.false in
     record {
-      value = rw (cm-at.ensures.value, cd-at.ensures.value) (past_stored _ _ _ _ v arrival.ensures.value cm cd);
-      cap = omega (arith, pre.progress.time, arrival.ensures.cap, cm-at.ensures.fits, cd-at.ensures.fits);
+      value = rw ((cm-of.ensures.value c.args.job refl), (cd-of.ensures.value c.args.job refl)) (past_stored _ _ _ _ v arrival.ensures.value cm cd);
+      cap = omega (arith, pre.progress.time, arrival.ensures.cap, cm-of.ensures.fits, cd-of.ensures.fits);
     }
