@@ -1,7 +1,7 @@
 // What the programs read and write: a text by one call, the sheet on standard input, files, and marks or a number in an argument.
 #![tactic(auto)]
 
-ghost use Rattle.std.specs.Prelude.{◌≡◌, ◌<◌, ◌≤◌, true, length, take, IfOk};
+ghost use Rattle.std.specs.Prelude.{◌≡◌, ◌<◌, ◌≤◌, true, length, take, IfOk, IfSome};
 ghost use Rattle.std.specs.Io.KnownBytes.{Appends, Consumes, IsAtEnd};
 ghost use Rattle.console.specs.Counts.{IsPrefixLen, count_read};
 ghost use Rattle.output.specs.Texts.{line_room, text_of};
@@ -170,13 +170,17 @@ pub fn read_all<R: Read>(file: &mut R, buf: &mut [u8]) -> Result<usize, Broken>
 }
 
 // Argument i, at the start of the buffer; none where there is none, or where the buffer is too short for it.
-pub fn argument<'a>(rt: &HostRuntime, i: usize, buf: &'a mut [u8]) -> Option<&'a [u8]> {
+pub fn argument<'a>(rt: &HostRuntime, i: usize, buf: &'a mut [u8]) -> Option<&'a [u8]>
+    ensures { IfSome result (λ text. length text.now ≤ length buf.old) }
+{
     let n = rt.arg(i, buf).ok()?;
     Some(&buf[..n])
 }
 
 // The sheet on standard input; a read that fails has its line.
-pub fn read_sheet<'a>(rt: &HostRuntime, buf: &'a mut [u8]) -> Option<&'a [u8]> {
+pub fn read_sheet<'a>(rt: &HostRuntime, buf: &'a mut [u8]) -> Option<&'a [u8]>
+    ensures { IfSome result (λ sheet. length sheet.now ≤ length buf.old) }
+{
     let Ok(n) = read_all(&mut rt.stdin(), buf) else {
         complain(rt, b"cannot read: ", b"sheet");
         return None;
@@ -185,7 +189,9 @@ pub fn read_sheet<'a>(rt: &HostRuntime, buf: &'a mut [u8]) -> Option<&'a [u8]> {
 }
 
 // The marks that the first argument gives as digits; one that is too long or no digits has its line.
-pub fn read_marks<'a>(rt: &HostRuntime, buf: &'a mut [u8]) -> Option<&'a [u8]> {
+pub fn read_marks<'a>(rt: &HostRuntime, buf: &'a mut [u8]) -> Option<&'a [u8]>
+    ensures { IfSome result (λ marks. length marks.now ≤ length buf.old) }
+{
     let Ok(n) = rt.arg(1, buf) else {
         complain(rt, b"argument too long: ", b"marks");
         return None;
