@@ -1,6 +1,4 @@
-use Prim.Native.Nat.{◌-◌}
 use mathlib.Core.Path.{sym, ◌∙◌}
-use mathlib.Core.Logic.{⊎_elim}
 use native.Mathlib.Omega.{arith}
 use Rattle.chain.proofs.Equations.{last_first}
 use Rattle.rules.proofs.Copies.{last_next, last_kept, last_end}
