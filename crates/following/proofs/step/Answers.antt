@@ -1,7 +1,6 @@
 -- `following::step` meets its contract: 22 to 24 in their order, then the event that was matched, and 25 where the run arrives. Assumes nothing.
 use mathlib.Core.Path.{◌≡◌, refl, sym, ◌∙◌}
 use mathlib.Core.Bool.{false}
-use native.Mathlib.Omega.{arith}
 use borrow.Author.Tests.{not-false}
 use Rattle.rules.specs.Rules.{awaits, finished}
 use Rattle.events.specs.declared.Event.TheVariants.{Failed}

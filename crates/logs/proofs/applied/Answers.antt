@@ -1,11 +1,10 @@
-use Prim.Native.Nat.{◌-◌, ◌<◌, ◌≤◌}
 use mathlib.Core.Path.{◌≡◌, refl, sym, ◌∙◌, ap}
 use native.Mathlib.Omega.{arith}
-use Rattle.std.proofs.Common.{Ok, Some, None, rules}
+use Rattle.std.proofs.Common.{Ok, None, rules}
 use Rattle.refusals.specs.Checks.{told}
 use Rattle.carried.proofs.Copies.{carries_own}
 use Rattle.following.specs.Run.{standing}
-use Rattle.following.specs.Working.Lent.{lent_run, event_refusal}
+use Rattle.following.specs.Working.Lent.{lent_run}
 use Rattle.following.proofs.Unbroken.{event_keeps_sound}
 use Rattle.logs.specs.Log.{record_count}
 use Rattle.logs.specs.Working.Once.{applied_on}

@@ -1,6 +1,6 @@
 -- `logs::applied` meets its contract. The loop's invariant: the records before i are accepted and lead to the place at hand, which 21 accepts and whose copies are
 -- carried. A refusal at a record is the answer of the whole log. Assumes nothing.
-use Prim.Native.Nat.{ℕ, ◌-◌, ◌≤◌}
+use Prim.Native.Nat.{ℕ}
 use mathlib.Core.Path.{◌≡◌}
 use mathlib.Core.List.{List}
 use Rattle.following.specs.Run.{standing, accepted}

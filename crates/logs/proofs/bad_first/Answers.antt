@@ -1,11 +1,10 @@
 -- `logs::bad_first` meets its contract. A log with a byte has a first record. Assumes nothing.
-use mathlib.Core.Path.{◌≡◌, refl, sym, ◌∙◌}
+use mathlib.Core.Path.{◌≡◌, sym, ◌∙◌}
 use mathlib.Core.Bool.{true, false}
 use native.Mathlib.Omega.{arith}
-use borrow.Author.Tests.{eq-eqb, ne_eqb, eqb-false}
+use borrow.Author.Tests.{eqb-false}
 use lib.Dec.{eqb}
 use lib.ListN.{length}
-use Rattle.std.proofs.Common.{rules}
 use Rattle.logs.specs.Log.{record_count}
 use Rattle.logs.specs.Working.Once.{bad_first}
 use Rattle.logs.proofs.Once.{none_told}

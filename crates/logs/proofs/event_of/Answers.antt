@@ -6,7 +6,7 @@ use Rattle.events.specs.declared.Event.{Event}
 use mathlib.Core.Bool.{Bool, true, false, cond, ◌||◌, or-true, false≢true}
 use native.Mathlib.Decide.{dec_lt}
 use native.Mathlib.Omega.{arith}
-use borrow.Author.Tests.{lt-ltb, le-ltb, eq-eqb, ne_eqb}
+use borrow.Author.Tests.{lt-ltb, le-ltb, ne_eqb}
 use lib.Dec.{ltb}
 use Rattle.logs.specs.Log.{done_code, passed_code, failed_code, stopped_code, bad_record, event_of, read_event}
 use Rattle.logs.proofs.event_of.Goals as goal

@@ -1,7 +1,5 @@
 -- `logs::followed` meets its contract. A state that 21 accepts is taken up and lent in parts, which are the state itself. Assumes nothing.
 use Rattle.rules.proofs.Soundness.{run_sound, position_range}
-use Rattle.carried.proofs.Copies.{carries_own}
-use Rattle.logs.proofs.Once.{ends_own}
 use Rattle.logs.proofs.followed.Goals as goal
 
 pub taken_up-start-requires : goal.taken_up-start-requires

@@ -1,5 +1,5 @@
 -- `named::name_twice` meets its contract. The loop's invariant: the names of the entries passed have no slot before them. Assumes nothing.
-use Prim.Native.Nat.{ℕ, ◌-◌, ◌≤◌}
+use Prim.Native.Nat.{ℕ, ◌≤◌}
 use mathlib.Core.List.{List}
 use lib.ListN.{length, take}
 use Rattle.names.specs.declared.Held.{Held}

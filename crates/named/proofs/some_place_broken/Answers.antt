@@ -1,10 +1,8 @@
-use Prim.Native.Nat.{◌-◌}
 use mathlib.Core.Path.{◌≡◌, sym, ◌∙◌, ap}
 use lib.ListN.{length}
 use native.Mathlib.Omega.{arith}
 use Rattle.rules.specs.Rules.{marks_in, broken_place}
 use Rattle.names.specs.Names.{name_limit}
-use Rattle.names.specs.declared.Held.{Held}
 use Rattle.names.proofs.Slots.{long_held, place_held}
 use Rattle.named.proofs.Places.{kept_none, kept_breaks, kept_more, kept_all}
 use Rattle.named.proofs.some_place_broken.Goals as goal

@@ -1,6 +1,5 @@
 -- `named::some_place_broken` meets its contract. The loop's invariant: the places passed keep the rules.
 -- Assumes nothing.
-use Prim.Native.Nat.{◌-◌}
 use lib.ListN.{take}
 use Rattle.rules.specs.Rules.{marks_in}
 use Rattle.named.proofs.Places.{Kept}

@@ -1,7 +1,6 @@
 -- `names::put` meets its contract. Assumes nothing.
 use lib.Arith.{lt_of_le-ne}
 use Rattle.names.specs.Names.{name_limit}
-use Rattle.names.specs.declared.Held.{Held}
 use Rattle.names.proofs.Entries.{put_same, put_new}
 use Rattle.std.proofs.Common.{◌≡◌, length, arith}
 use Rattle.names.proofs.put.Goals as goal

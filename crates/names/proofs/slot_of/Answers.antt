@@ -1,8 +1,6 @@
-use Prim.Native.Nat.{◌-◌}
 use mathlib.Core.Path.{sym, ◌∙◌}
 use native.Mathlib.Omega.{arith}
 use Rattle.names.specs.Names.{name_limit}
-use Rattle.names.specs.declared.Held.{Held}
 use Rattle.names.proofs.Slots.{long_held, name_held, passed_none, passed_here, passed_more, passed_all}
 use Rattle.std.proofs.Common.{◌≡◌, length, arith}
 use Rattle.names.proofs.slot_of.Goals as goal

@@ -1,5 +1,4 @@
 -- `names::slot_of` meets its contract. The loop's invariant: the entries passed have other names. Assumes nothing.
-use Prim.Native.Nat.{◌-◌}
 use lib.ListN.{take}
 use Rattle.names.proofs.Slots.{Passed}
 use Rattle.names.proofs.slot_of.Given as goal

@@ -3,7 +3,6 @@ use mathlib.Core.Path.{◌≡◌, refl, ◌∙◌, ap}
 use native.Mathlib.Omega.{arith}
 use lib.ListN.{length}
 use Rattle.names.specs.Names.{name_limit}
-use Rattle.names.specs.declared.Held.{Held}
 use Rattle.names.proofs.Entries.{held_then, take_out_is, moved_none, moved_more, moved_all}
 use Rattle.std.proofs.Common.{◌≡◌, length, arith}
 use Rattle.names.proofs.take_out.Goals as goal

@@ -1,5 +1,4 @@
 -- `names::take_out` meets its contract. The loop's invariant: the entries before j have moved up. Assumes nothing.
-use Prim.Native.Nat.{◌-◌}
 use Rattle.names.proofs.Entries.{MovedUp}
 use Rattle.names.proofs.take_out.Given as goal
 

@@ -2,7 +2,6 @@
 use mathlib.Core.Path.{sym, ◌∙◌}
 use Rattle.std.proofs.Common.{◌≡◌, length, arith}
 use Rattle.names.specs.Names.{name_limit}
-use Rattle.names.specs.declared.Held.{Held}
 use Rattle.named.proofs.Passed.{named_few}
 use Rattle.naming.proofs.Answers.{name_broken, ready_to_put, name_full, name_put}
 use Rattle.naming.proofs.named.Goals as goal

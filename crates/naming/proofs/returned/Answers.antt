@@ -3,7 +3,6 @@ use mathlib.Core.Path.{sym, ◌∙◌}
 use native.Mathlib.Omega.{arith}
 use Rattle.std.proofs.Common.{◌≡◌, length}
 use Rattle.names.specs.Names.{name_limit}
-use Rattle.names.specs.declared.Held.{Held}
 use Rattle.names.proofs.Slots.{place_held}
 use Rattle.named.proofs.Passed.{named_few}
 use Rattle.names.specs.Names.{place_under}

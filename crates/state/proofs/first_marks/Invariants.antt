@@ -1,5 +1,4 @@
 -- `state::first_marks` meets its contract. The loop's invariant: the entries passed are the marks, and 0 stands in the others. Assumes nothing.
-use Prim.Native.Nat.{◌-◌}
 use Rattle.state.proofs.EntriesTaken.{Taken}
 use Rattle.state.proofs.first_marks.Given as goal
 

@@ -1,6 +1,5 @@
 -- `state::first_weights` meets its contract. The loop's invariant: the entries passed are the weights, and 0 stands in the others. The measure is what is left
 -- of the entries. Assumes nothing.
-use Prim.Native.Nat.{◌-◌}
 use Rattle.state.proofs.EntriesTaken.{Taken}
 use Rattle.state.proofs.first_weights.Given as goal
 
