@@ -154,6 +154,7 @@ pub fn read_all<R: Read>(file: &mut R, buf: &mut [u8]) -> Result<usize, Broken>
     ensures end { IfOk result (λ n. n < length buf.new → IsAtEnd (R.remaining file.new)) }
 {
     let mut n: usize = 0;
+    // a `while`, as each read says where the next one begins
     while n < buf.len() {
         match file.read(&mut buf[n..]) {
             Ok(0) => return Ok(n),

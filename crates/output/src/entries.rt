@@ -29,11 +29,8 @@ fn put_entries(out: &mut [u8], at: usize, entries: [Held; NAME_LIMIT], n: usize)
     ensures { PutsWithin out.old out.new at result (n * held_room) (held_text (take n entries)) }
 {
     let mut end = at;
-    let mut j: usize = 0;
-    while j < n {
-        let held = entries[j];
-        end = put_held(out, end, held);
-        j += 1;
+    for j in 0..n {
+        end = put_held(out, end, entries[j]);
     }
     end
 }
@@ -42,10 +39,7 @@ fn put_entries(out: &mut [u8], at: usize, entries: [Held; NAME_LIMIT], n: usize)
 fn entries_held(names: Names) -> usize
     ensures { result ≡ min names.count name_limit }
 {
-    if names.count < NAME_LIMIT {
-        return names.count;
-    }
-    NAME_LIMIT
+    names.count.min(NAME_LIMIT)
 }
 
 // Where a run stands, what it has counted, and the names that it holds.

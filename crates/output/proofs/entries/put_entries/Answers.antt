@@ -10,20 +10,8 @@ use Rattle.output.proofs.entries.put_entries.Goals as goal
 pub loop-j-init : goal.loop-j-init
 loop-j-init c = entries_none _ _ _ _
 
-pub offset_bounds-entries-j : goal.offset_bounds-entries-j
-offset_bounds-entries-j c = omega (arith, c.requires.few)
-
-pub bounds-entries-j : goal.bounds-entries-j
-bounds-entries-j c = omega (arith, c.requires.few)
-
 pub put_held-end-requires : goal.put_held-end-requires
 put_held-end-requires c = entries_room c.loop-j-test.true c.requires.room c.loop-j.invariant
-
-pub overflow_add-j : goal.overflow_add-j
-overflow_add-j c = omega (arith, c.requires.few)
-
-pub loop-j-smaller : goal.loop-j-smaller
-loop-j-smaller c = omega arith
 
 pub loop-j-preserved : goal.loop-j-preserved
 loop-j-preserved c =
