@@ -4,6 +4,7 @@
 ghost use Rattle.chain.specs.Working.Factors.{ReadyForStretch, StretchTime};
 
 // What a mark has at least: any mark is 1 or more, a memory copy 2 or more, a disk copy 3, the highest.
+// Numbers, and no enum: a mark is a byte of a buffer that C lends and of a run's state, and what it has is told by its height.
 pub const VERIFICATION: u8 = 1;
 
 pub const MEMORY: u8 = 2;

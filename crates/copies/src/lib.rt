@@ -12,7 +12,7 @@ ghost use Rattle.table.specs.Working.Table.{chain_in};
 ghost use Rattle.copies.specs.Working.Copies.{Offered, Cut, LiveCopy, LiveDisk, Far, ReadyForCopies, ReadyForFar, ReadyForMemory, ReadyForMemoryRow, ReadyForDisk, OffersDisk, ReadyForDiskRow};
 
 use bounds::{after, beyond, part_low};
-use table::{CD_START, CM_START, column_of, entry, recoveries, wide};
+use table::{CD_START, CM_START, column_of, entry, recoveries};
 use units::{NONE, POSITIONS};
 use verifications::{offer, verification_row};
 
@@ -30,7 +30,7 @@ fn offer_copies(
 {
     let t = time[u];
     for v in u + 1..top + 1 {
-        offer(time, backs, v, u, t + part[v] + wide(copies[v]));
+        offer(time, backs, v, u, t + part[v] + u64::from(copies[v]));
     }
 }
 

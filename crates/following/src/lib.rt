@@ -13,7 +13,7 @@ use rules::positions::{mark_at, weight_at};
 use rules::{finished, over_total};
 use state::{Place, Run};
 
-// The answer to a log: 0 and the next state, or the refusal and the state given.
+// The answer to a log: 0 and the next state, or the refusal and the state given. No Result: C takes it.
 #[repr(C)]
 #[derive(Clone, Copy)]
 pub struct Stepped {

@@ -16,7 +16,7 @@ use sheet::read::read_job;
 use units::TASK_LIMIT;
 use writing::{fields_of, put_sheet, sheet_length};
 
-// The answer of a join: 0 and how many bytes of the buffer are the sheet, or the number of its refusal and 0.
+// The answer of a join: 0 and how many bytes of the buffer are the sheet, or the number of its refusal and 0. No Result: C takes it.
 #[repr(C)]
 #[derive(Clone, Copy)]
 pub struct Joined {

@@ -9,7 +9,8 @@ ghost use Rattle.header.specs.Header.{sections};
 use fields::{FIELD_LENGTH, byte};
 use header::{offset_of, section_count, size_of, task_count};
 
-// The kinds, and the length of a platform section.
+// The kinds, and the length of a platform section. Numbers, and no enum: a lookup by C may ask for any number, and a sheet may hold any, so that each use would turn
+// a case back into its number.
 pub const PLATFORM_KIND: u64 = 1;
 
 pub const WEIGHTS_KIND: u64 = 2;

@@ -20,7 +20,7 @@ use state::Run;
 
 const RECORD_LENGTH: usize = 5;
 
-// The codes of the four events.
+// The codes of the four events: bytes of a log, which `event_of` alone reads, and turns into the enum.
 const DONE: u64 = 1;
 
 const PASSED: u64 = 2;

@@ -10,7 +10,7 @@ use named::{NamedRun, bad_names, broken_named};
 use names::{Held, NAME_LIMIT, put, slot_of, take_out};
 use refusals::{ACCEPTED, Refusal};
 
-// The answer to a call: 0 and the next state, or the refusal and the state given.
+// The answer to a call: 0 and the next state, or the refusal and the state given. No Result: C takes it.
 #[repr(C)]
 #[derive(Clone, Copy)]
 pub struct NamedStepped {

@@ -55,6 +55,7 @@ impl Refusal {
 }
 
 // The answer to a call: number 0 and the time, or the number of its refusal and time 0. A plan by energy has its energy in place of the time.
+// A number beside a time, and no Result: C takes it.
 #[repr(C)]
 #[derive(Clone, Copy)]
 pub struct Answer {

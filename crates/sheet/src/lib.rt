@@ -4,7 +4,7 @@
 pub mod lookup;
 pub mod read;
 
-// What a lookup finds: 0 and where the stretch lies, or the number of its refusal and the empty stretch at byte 0.
+// What a lookup finds: 0 and where the stretch lies, or the number of its refusal and the empty stretch at byte 0. No Result: C takes it.
 #[repr(C)]
 #[derive(Clone, Copy)]
 pub struct Found {

@@ -9,7 +9,7 @@ use refusals::{ACCEPTED, Refusal};
 use sheet::read::read_job;
 use state::Run;
 
-// The answer to a start: 0 and the fresh run, or the refusal and the state whose every field is 0.
+// The answer to a start: 0 and the fresh run, or the refusal and the state whose every field is 0. No Result: C takes it.
 #[repr(C)]
 #[derive(Clone, Copy)]
 pub struct Started {

@@ -4,7 +4,7 @@
 
 ghost use Rattle.std.specs.Prelude.{◌≡◌, ◌+◌, ◌<◌, ◌≤◌, length, take, drop, set};
 ghost use Rattle.units.specs.Limits.{positions};
-ghost use Rattle.table.specs.Working.Table.{Widened, first_start, column, entry_of, put_pair, IsPair, InTable, PairFits, ReadyForPair, InColumn, ReadyForColumn, ReadyForRecoveries, RecoveriesIn, ReadyForFirsts, FirstIs, FirstsPut};
+ghost use Rattle.table.specs.Working.Table.{first_start, column, entry_of, put_pair, IsPair, InTable, PairFits, ReadyForPair, InColumn, ReadyForColumn, ReadyForRecoveries, RecoveriesIn, ReadyForFirsts, FirstIs, FirstsPut};
 
 use chain::{Factors, Recoveries};
 use units::POSITIONS;
@@ -33,12 +33,6 @@ const PAIRS: usize = POSITIONS * (POSITIONS - 1) / 2;
 // The table of the longest chain.
 pub const TABLE_LENGTH: usize = PAIRS_START + PAIR_ENTRIES * PAIRS;
 
-pub fn wide(x: u32) -> u64
-    ensures { Widened x result }
-{
-    x as u64
-}
-
 // Which pair (u, v) is: the pairs of a far end stand together.
 fn pair_index(u: usize, v: usize) -> usize
     requires { IsPair u v }
@@ -54,9 +48,9 @@ pub fn entry(t: &[u32], u: usize, v: usize) -> Factors
 {
     let at = PAIRS_START + PAIR_ENTRIES * pair_index(u, v);
     Factors {
-        work: wide(t[at]) + HALF * wide(t[at + 1]),
-        silent: wide(t[at + 2]),
-        both: wide(t[at + 3]),
+        work: u64::from(t[at]) + HALF * u64::from(t[at + 1]),
+        silent: u64::from(t[at + 2]),
+        both: u64::from(t[at + 3]),
     }
 }
 
@@ -77,7 +71,7 @@ pub fn column_at(t: &[u32], start: usize, v: usize) -> u64
     requires { InColumn t.now start v }
     ensures { result ≡ column start t.now v }
 {
-    wide(t[start + v])
+    u64::from(t[start + v])
 }
 
 // Puts x into a column at v.

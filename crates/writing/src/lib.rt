@@ -25,7 +25,7 @@ const PLATFORM_START: usize = PAIRS_START + PAIR_LENGTH * 2;
 
 const WEIGHTS_START: usize = PLATFORM_START + PLATFORM_LENGTH;
 
-// The fields of a platform, in the sheet's order.
+// The fields of a platform, in the sheet's order. No `From`: it would have to stand beside `Platform`, in a crate that knows no sheet.
 pub fn fields_of(p: Platform) -> [u32; PLATFORM_FIELDS]
     ensures { result ≡ platform_fields p }
 {

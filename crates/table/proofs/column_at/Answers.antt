@@ -5,5 +5,4 @@ use Rattle.table.proofs.column_at.Goals as goal
 pub returns : goal.returns
 unfolding column
 returns c =
-    let wide = c.wide in
-    wide.ensures.value
+    c.from.ensures

@@ -13,11 +13,6 @@ use Rattle.units.specs.Limits.{positions}
 abbrev pub half : ℕ
 half = 2 ^ 32
 
--- an entry as a wider number
-pub record Widened (x r : ℕ) : Type 0 where
-  pub value : r ≡ x
-  pub range : r < half
-
 -- where each column starts
 abbrev pub cm_start : ℕ
 cm_start = 0
