@@ -66,12 +66,21 @@ module _ (n : ℕ) (time t b : List ℕ) (d m left top : ℕ) where
   unfolding low
   soonest_is disk y e i v x is = rw (is, i, e)
 
+  soonest_ge : (v : ℕ) → get_or time m 0 ≤ soonest v
+  unfolding low
+  soonest_ge v = omega arith
+
   pub passed_next : (v : ℕ) → m < v → Passed (v + 1) → min (get_or time v 0) (left - (bounds_in n b).after d v) ≤ soonest v → Passed v
   passed_next v h p x = record { from = h; none_later = λ w a k y z. go w a k y z (ℕ_discrete w v) }
     where
       go : (w : ℕ) → m < w → w ≤ top → soonest w < get_or time w 0 → soonest w + (bounds_in n b).after d w < left → Dec (w ≡ v) → w < v
       go w a k y z (yes e) = absurd (omega (arith, rw e at y, rw e at z))
       go w a k y z (no e) = omega (arith, p.none_later w a k y z)
+
+  -- v matters, and nothing after it
+  pub far_some : (v : ℕ) → m < v → v ≤ top → Passed (v + 1) → get_or time v 0 ≤ none → soonest v < min (get_or time v 0) (left - (bounds_in n b).after d v) → Far n time t b d m left top v
+  far_some v h k p cap x =
+      record { from = omega arith; to = k; reached = λ _. omega (arith, soonest_ge v); reaches = λ w a l y z. omega (arith, p.none_later w a l y z) }
 
   -- where m leaves no room, nothing after it does
   pub far_dead : Bounding n top t b → d ≤ m → m ≤ top → (v : ℕ) → v ≡ m → ((w : ℕ) → w ≤ top → get_or time w 0 ≤ none) → least_m (chain_in t) none d m ≤ get_or time m 0

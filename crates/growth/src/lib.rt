@@ -19,7 +19,7 @@ const TERM_UNIT: u64 = 1 << 30;
 // 64 units of 2^-30 make one of 2^-24.
 const GUARD: u64 = 64;
 
-// n / d rounded up.
+// n / d rounded up. Not `div_ceil`, which works out the remainder too: the divisors of the first terms are constants, and a division by one is a product and a shift.
 fn ceil_div(n: u64, d: u64) -> u64
     requires { ReadyToDivide n d }
     ensures { result ≡ Growth.ceil_div n d }

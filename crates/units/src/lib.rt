@@ -18,6 +18,7 @@ pub const TASK_LIMIT: usize = 64;
 pub const POSITIONS: usize = TASK_LIMIT + 1;
 
 // up(p) of document 01, for every p that leaves room for the rounding; the caps of the crates above keep every product so.
+// Not `div_ceil`, which compiles to five instructions where this takes two: the search asks it three times for each pair of positions.
 pub fn rounded_up(p: u64) -> u64
     requires { p + unit ≤ 2 ^ 64 }
     ensures { result ≡ up p }
