@@ -21,6 +21,15 @@ pub struct Stepped {
     pub run: Run,
 }
 
+// What a run lends to each of its events: what stays from event to event.
+#[derive(Clone, Copy)]
+pub struct Lent<'a> {
+    pub tasks: usize,
+    pub platform: Platform,
+    pub weights: &'a [u32],
+    pub marks: &'a [u8],
+}
+
 // The answer that tells a run or a refusal, which hands back the run from before.
 pub fn answered(before: Run, after: Result<Run, Refusal>) -> Stepped
     ensures { result ≡ stepped before after }
@@ -73,20 +82,21 @@ fn carrying(place: Place, memory: Saved, disk: Saved) -> Carried
 
 // One event of a run that 21 accepts: what is carried on, or the first refusal among 22 to 25. A passed mark may save copies, and a stop loses what memory held after
 // the last disk copy.
-pub fn step(
-    tasks: usize,
-    platform: Platform,
-    weights: &[u32],
-    marks: &[u8],
-    carried: Carried,
-    event: Event,
-) -> Result<Carried, Refusal>
-    requires { ReadyForEvent (lent_run tasks platform weights.now marks.now carried) carried }
-    ensures { Moves (lent_run tasks platform weights.now marks.now carried) event result }
+pub fn step(lent: &Lent<'_>, carried: Carried, event: Event) -> Result<Carried, Refusal>
+    requires { ReadyForEvent (lent_run lent.now carried) carried }
+    ensures { Moves (lent_run lent.now carried) event result }
 {
-    let place = carried.place;
-    let memory = carried.memory;
-    let disk = carried.disk;
+    let Lent {
+        tasks,
+        platform,
+        weights,
+        marks,
+    } = *lent;
+    let Carried {
+        place,
+        memory,
+        disk,
+    } = carried;
     if finished(tasks, place) {
         return Err(Refusal::Finished);
     }

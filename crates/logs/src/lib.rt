@@ -12,8 +12,7 @@ ghost use Rattle.logs.specs.Working.Once.{bad_first, refusal_before, applied_on,
 use carried::{Carried, taken_up};
 use events::Event;
 use fields::{byte, field};
-use following::{Stepped, answered, step};
-use job::Platform;
+use following::{Lent, Stepped, answered, step};
 use refusals::Refusal;
 use rules::broken;
 use state::Run;
@@ -77,23 +76,16 @@ fn bad_first(log: &[u8]) -> bool
 }
 
 // The records in turn, from a run that 21 accepts: what is carried at their end, or the first refusal among 12 and 22 to 25.
-fn applied(
-    tasks: usize,
-    platform: Platform,
-    weights: &[u32],
-    marks: &[u8],
-    start: Carried,
-    log: &[u8],
-) -> Result<Carried, Refusal>
-    requires { ReadyForEvent (lent_run tasks platform weights.now marks.now start) start }
-    ensures { Ends (lent_run tasks platform weights.now marks.now start) log.now (record_count log.now) result }
+fn applied(lent: &Lent<'_>, start: Carried, log: &[u8]) -> Result<Carried, Refusal>
+    requires { ReadyForEvent (lent_run lent.now start) start }
+    ensures { Ends (lent_run lent.now start) log.now (record_count log.now) result }
 {
     let mut carried = start;
     for i in 0..log.len().div_ceil(RECORD_LENGTH) {
         let Some(event) = event_of(record_at(log, i)) else {
             return Err(Refusal::BadRecord);
         };
-        carried = step(tasks, platform, weights, marks, carried, event)?;
+        carried = step(lent, carried, event)?;
     }
     Ok(carried)
 }
@@ -103,17 +95,13 @@ fn followed(run: Run, log: &[u8]) -> Result<Run, Refusal>
     requires { broken run ≡ false }
     ensures { stepped run result ≡ or_before run (applied_on run log.now (record_count log.now)) }
 {
-    let weights = run.job.weights;
-    let marks = run.marks;
-    let start = taken_up(run);
-    let carried = applied(
-        run.job.tasks,
-        run.job.platform,
-        &weights[..],
-        &marks[..],
-        start,
-        log,
-    )?;
+    let lent = Lent {
+        tasks: run.job.tasks,
+        platform: run.job.platform,
+        weights: &run.job.weights,
+        marks: &run.marks,
+    };
+    let carried = applied(&lent, taken_up(run), log)?;
     let mut last = run;
     last.place = carried.place;
     Ok(last)

@@ -42,7 +42,7 @@ returns-then-over_weight c =
     let if1 = c.if-finished in
     let finished = c.finished in
     let args = c.args in
-    let run = lent_run args.tasks args.platform args.weights.now args.marks.now args.carried in
+    let run = lent_run args.lent.now args.carried in
     record {
       number =
           event_over_weight run args.event (sym finished.ensures ∙ if1.false) (sym out-of-turn.ensures ∙ if2.false)
@@ -53,12 +53,12 @@ returns-then-over_weight c =
 pub after_done-requires : goal.after_done-requires
 after_done-requires c =
     let args = c.args in
-    in_range (lent_run args.tasks args.platform args.weights.now args.marks.now args.carried) args.carried c.requires
+    in_range (lent_run args.lent.now args.carried) args.carried c.requires
 
 pub after_passed-requires : goal.after_passed-requires
 after_passed-requires c =
     let args = c.args in
-    in_range (lent_run args.tasks args.platform args.weights.now args.marks.now args.carried) args.carried c.requires
+    in_range (lent_run args.lent.now args.carried) args.carried c.requires
 
 pub after_failed-requires : goal.after_failed-requires
 unfolding out_of_turn
@@ -67,7 +67,7 @@ after_failed-requires c =
     let if2 = c.if-out_of_turn in
     let out-of-turn = c.out_of_turn in
     let args = c.args in
-    let run = lent_run args.tasks args.platform args.weights.now args.marks.now args.carried in
+    let run = lent_run args.lent.now args.carried in
     let turn : out_of_turn (awaits run.place) Failed ≡ false = rw event at (sym out-of-turn.ensures ∙ if2.false) in
     back_ready run args.carried c.requires _ c.requires.carries.memory_copy.kept (memory_early run args.carried c.requires (not-false (awaits run.place) turn))
 
@@ -78,7 +78,7 @@ after_stopped-requires c =
     let if2 = c.if-out_of_turn in
     let out-of-turn = c.out_of_turn in
     let args = c.args in
-    let run = lent_run args.tasks args.platform args.weights.now args.marks.now args.carried in
+    let run = lent_run args.lent.now args.carried in
     let turn = rw event at (sym out-of-turn.ensures ∙ if2.false) in
     back_ready run args.carried c.requires _ c.requires.carries.disk_copy.kept (disk_early run args.carried c.requires turn)
 
@@ -86,7 +86,7 @@ pub returns-then-over_total : goal.returns-then-over_total
 unfolding finished
 returns-then-over_total c =
     let args = c.args in
-    let run = lent_run args.tasks args.platform args.weights.now args.marks.now args.carried in
+    let run = lent_run args.lent.now args.carried in
     let arrives : Arrives run args.event c.match-event.next = elim c.match-event.branch [
       | in-Done w ↦
           let event = w.in-Done.is in
@@ -112,7 +112,7 @@ pub returns : goal.returns
 unfolding finished
 returns c =
     let args = c.args in
-    let run = lent_run args.tasks args.platform args.weights.now args.marks.now args.carried in
+    let run = lent_run args.lent.now args.carried in
     let arrives : Arrives run args.event c.match-event.next = elim c.match-event.branch [
       | in-Done w ↦
           let event = w.in-Done.is in

@@ -3,7 +3,6 @@ use Rattle.std.specs.Prelude.{ℕ, ◌≡◌, Bool, false, cond, List, eqb, Resu
 use Rattle.refusals.specs.Checks.{told}
 use Rattle.refusals.specs.declared.Refusal.{Refusal}
 use Rattle.refusals.specs.Refusals.{first}
-use Rattle.job.specs.declared.Platform.{Platform}
 use Rattle.state.specs.declared.Place.{Place}
 use Rattle.state.specs.declared.Run.{Run}
 use Rattle.rules.specs.Rules.{broken}
@@ -12,12 +11,13 @@ use Rattle.carried.specs.declared.Saved.{Saved}
 use Rattle.carried.specs.declared.Carried.{Carried}
 use Rattle.events.specs.declared.Event.{Event}
 use Rattle.following.specs.Run.{over_weight, event_conditions, next_place, standing, accepted, refused}
+use Rattle.following.specs.declared.Lent.{Lent}
 use Rattle.following.specs.declared.Stepped.{Stepped}
 
 -- the state that is lent in parts
-abbrev pub lent_run : (tasks : ℕ) → Platform → (weights marks : List ℕ) → Carried → Run
-lent_run tasks platform weights marks carried =
-    record { job = record { tasks = tasks; platform = platform; weights = weights }; marks = marks; place = carried.place }
+abbrev pub lent_run : Lent → Carried → Run
+lent_run lent carried =
+    record { job = record { tasks = lent.tasks; platform = lent.platform; weights = lent.weights.now }; marks = lent.marks.now; place = carried.place }
 
 -- 24 in every state with these weights at this position
 abbrev pub OverWeight : (weights : List ℕ) → (position : ℕ) → Event → Bool → Type 0

@@ -24,7 +24,7 @@ unfolding record_count
 returns-in_default c =
     let args = c.args in
     let loop = c.loop-i in
-    let run = lent_run args.tasks args.platform args.weights.now args.marks.now args.start in
+    let run = lent_run args.lent.now args.start in
     let none : c.event_of.result ≡ None = c.in_default.is in
     let bad = read_none _ (sym c.event_of.ensures ∙ none) in
     let answer =
@@ -39,7 +39,7 @@ unfolding record_count
 returns-in_err-carried c =
     let args = c.args in
     let loop = c.loop-i in
-    let run = lent_run args.tasks args.platform args.weights.now args.marks.now args.start in
+    let run = lent_run args.lent.now args.start in
     let read = read_some _ c.in-Some.event (sym c.event_of.ensures ∙ c.in-Some.is) in
     let same : told c.from_residual.result ≡ told c.step.result = search rules in
     let number = same ∙ c.step.ensures.number in
@@ -50,7 +50,7 @@ pub loop-i-preserved : goal.loop-i-preserved
 loop-i-preserved c =
     let args = c.args in
     let loop = c.loop-i in
-    let run = lent_run args.tasks args.platform args.weights.now args.marks.now args.start in
+    let run = lent_run args.lent.now args.start in
     let state = standing run loop.carried.place in
     let read = read_some _ c.in-Some.event (sym c.event_of.ensures ∙ c.in-Some.is) in
     let passed : c.step.result ≡ Ok c.in_ok-carried.carried = search rules in
@@ -73,6 +73,6 @@ unfolding record_count
 returns c =
     let args = c.args in
     let loop = c.loop-i in
-    let run = lent_run args.tasks args.platform args.weights.now args.marks.now args.start in
+    let run = lent_run args.lent.now args.start in
     let e : loop.i ≡ record_count args.log.now = omega (arith, c.loop-i-test.false, loop.auto.i-end, c.div_ceil-i-end.ensures) in
     ends_accepted run args.log.now _ _ (rw e at loop.invariant.leads)

@@ -15,4 +15,4 @@ pub record Followed (run : Run) (log : List ℕ) (carried : Carried) (i : ℕ) :
   pub ready : ReadyForEvent (standing run carried.place) carried
 
 abbrev pub invariant-loop-i : goal.invariant-loop-i
-invariant-loop-i l = Followed (lent_run l.tasks l.platform l.weights l.marks l.fn.start) l.log l.carried l.i
+invariant-loop-i l = Followed (lent_run l.lent l.fn.start) l.log l.carried l.i

@@ -2,5 +2,5 @@
 use Rattle.rules.proofs.Soundness.{run_sound, position_range}
 use Rattle.logs.proofs.followed.Goals as goal
 
-pub taken_up-start-requires : goal.taken_up-start-requires
-taken_up-start-requires c = position_range (run_sound _ c.requires)
+pub taken_up-requires : goal.taken_up-requires
+taken_up-requires c = position_range (run_sound _ c.requires)
