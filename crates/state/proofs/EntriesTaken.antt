@@ -1,22 +1,22 @@
--- Entries of a fresh run. Storing one entry more is one entry more, and where the tasks, the list or the room end, so do the entries that are not 0.
+-- Entries of a fresh run. What is copied to the front of a list of one value are the first entries; where the tasks, the list or the room end, so do those.
 -- Assumes nothing.
-use Prim.Native.Nat.{ℕ, ◌+◌, ◌≤◌, ◌<◌}
+use Prim.Native.Nat.{ℕ, ◌+◌, ◌-◌, ◌≤◌, ◌<◌}
 use mathlib.Core.Path.{◌≡◌, sym, ◌∙◌}
 use mathlib.Core.Bool.{cond}
-use mathlib.Core.List.{List}
+use mathlib.Core.List.{List, ◌++◌}
 use mathlib.Core.Logic.{◌⊎◌, inl, inr}
 use native.Mathlib.Decide.{dec_lt}
 use native.Mathlib.Omega.{arith}
 use borrow.Author.Tests.{lt-ltb, le-ltb}
 use lib.Dec.{ltb}
-use lib.ListN.{length, get_or, take, set, get_or-eq_default}
-use lib.Seq.{ext_get_or, get_or-take, length-take-le}
+use lib.ListN.{length, get_or, take, drop, replicate, length-append, length-drop, length-replicate, get_or-append, get_or-replicate, get_or-eq_default}
+use lib.Seq.{ext_get_or, get_or-take, get_or-drop, get_or-append_right, length-take-le}
 use Rattle.lists.specs.Lists.{tabulate}
-use Rattle.lists.proofs.Lists.{store_next, tabulate_same, length_tabulate, get_d_tabulate}
+use Rattle.lists.proofs.Lists.{length_tabulate, get_d_tabulate}
 use Rattle.units.specs.Limits.{task_limit}
 use Rattle.job.specs.declared.Job.{Job}
 use Rattle.state.specs.State.{cleared, fresh, ZeroPast}
-use Rattle.state.specs.Working.Entries.{Entries}
+use Rattle.state.specs.Working.Entries.{Entries, First}
 
 -- an entry that is taken, and one that is not
 entry : List ℕ → ℕ → ℕ → ℕ
@@ -30,42 +30,51 @@ left_entry : (l : List ℕ) (n i : ℕ) → n ≤ i → entry l n i ≡ 0
 unfolding entry
 left_entry l n i h = rw (le-ltb i n h)
 
--- one entry more
-cleared_more : (l : List ℕ) (j : ℕ) → j < task_limit → set (cleared j l) j (get_or l j 0) ≡ cleared (j + 1) l
-unfolding cleared
-cleared_more l j h = store_next task_limit (λ i. get_or l i 0) j h
+-- entries copied to the front of a list of one value
+module _ {A : Type 0} (l : List A) (n most : ℕ) (zero : A) (some : Entries n (length l) most) where
+  abbrev rest : List A
+  rest = drop most (replicate task_limit zero)
 
--- all of them
-cleared_all : (l : List ℕ) (n most : ℕ) → Entries n (length l) most → cleared most l ≡ cleared n l
-unfolding cleared entry
-cleared_all l n most e = tabulate_same task_limit (entry l most) (entry l n) same
-  where
-    past : (i : ℕ) → i < task_limit → most ≤ i → i < n → (task_limit ≤ most) ⊎ ((n ≤ most) ⊎ (length l ≤ most)) → get_or l i 0 ≡ 0
-    past i h k m (inl x) = absurd (omega arith)
-    past i h k m (inr (inl x)) = absurd (omega arith)
-    past i h k m (inr (inr x)) = get_or-eq_default l 0 (omega arith)
+  front : length (take most l) ≡ most
+  front = length-take-le most l some.list
 
-    same : (i : ℕ) → i < task_limit → entry l most i ≡ entry l n i
-    same i h = go (dec_lt i most) (dec_lt i n)
-      where
-        go : Dec (i < most) → Dec (i < n) → entry l most i ≡ entry l n i
-        go (yes k) m = taken_entry l most i k ∙ sym (taken_entry l n i (omega (arith, e.tasks)))
-        go (no k) (yes m) = left_entry l most i (omega arith) ∙ sym (past i h (omega arith) m e.all) ∙ sym (taken_entry l n i m)
-        go (no k) (no m) = left_entry l most i (omega arith) ∙ sym (left_entry l n i (omega arith))
+  same : (k : ℕ) → get_or (replicate task_limit zero) k zero ≡ zero
+  same k = go (dec_lt k task_limit)
+    where
+      go : Dec (k < task_limit) → get_or (replicate task_limit zero) k zero ≡ zero
+      go (yes h) = get_or-replicate task_limit k zero zero h
+      go (no h) = get_or-eq_default (replicate task_limit zero) zero {n = k} (omega (arith, length-replicate task_limit zero))
 
--- The loops' invariant: of `most` entries the first j are taken from l, and 0 stands in the others.
-pub record Taken (l : List ℕ) (most : ℕ) (held : List ℕ) (j : ℕ) : Type 0 where
-  pub to : j ≤ most
-  pub entries : held ≡ cleared j l
+  in_front : (i : ℕ) → i < most → get_or (take most l ++ rest) i zero ≡ get_or l i zero
+  in_front i h = get_or-append (take most l) rest zero i (omega (arith, front)) ∙ get_or-take most l i zero h
 
-module _ (l : List ℕ) (n most : ℕ) (some : Entries n (length l) most) (held : List ℕ) (j : ℕ) (now : Taken l most held j) where
-  pub taken_more : j < most → Taken l most (set held j (get_or l j 0)) (j + 1)
-  taken_more h = record { to = omega arith; entries = rw now.entries (cleared_more l j (omega (arith, some.room))) }
+  behind : (i : ℕ) → most ≤ i → get_or (take most l ++ rest) i zero ≡ zero
+  behind i h =
+      get_or-append_right (take most l) rest i zero (omega (arith, front))
+      ∙ get_or-drop most (replicate task_limit zero) (i - length (take most l)) zero
+      ∙ same (most + (i - length (take most l)))
 
-  pub taken_all : most ≤ j → held ≡ cleared n l
-  taken_all h =
-      let e : j ≡ most = omega (arith, now.to) in
-      now.entries ∙ rw e (cleared_all l n most some)
+  pub first_copied : First n zero l (take most l ++ rest)
+  first_copied =
+      record {
+        room =
+            omega
+            (arith, some.room, front, length-append (take most l) rest, length-drop most (replicate task_limit zero), length-replicate task_limit zero);
+        taken = taken;
+        past = λ i h. behind i (omega (arith, some.tasks));
+      }
+    where
+      past : (i : ℕ) → i < n → i < task_limit → most ≤ i → (task_limit ≤ most) ⊎ ((n ≤ most) ⊎ (length l ≤ most)) → get_or l i zero ≡ zero
+      past i h k m (inl x) = absurd (omega arith)
+      past i h k m (inr (inl x)) = absurd (omega arith)
+      past i h k m (inr (inr x)) = get_or-eq_default l zero (omega arith)
+
+      taken : (i : ℕ) → i < n → i < task_limit → get_or (take most l ++ rest) i zero ≡ get_or l i zero
+      taken i h k = go (dec_lt i most)
+        where
+          go : Dec (i < most) → get_or (take most l ++ rest) i zero ≡ get_or l i zero
+          go (yes m) = in_front i m
+          go (no m) = behind i (omega arith) ∙ sym (past i h k (omega arith) some.all)
 
 -- an entry of a cleared list
 pub cleared_first : (n : ℕ) (l : List ℕ) (i : ℕ) → i < n → i < task_limit → get_or (cleared n l) i 0 ≡ get_or l i 0
@@ -79,6 +88,18 @@ cleared_past n l i h = go (dec_lt i task_limit)
     go : Dec (i < task_limit) → get_or (tabulate task_limit (entry l n)) i 0 ≡ 0
     go (yes k) = get_d_tabulate task_limit (entry l n) i k ∙ left_entry l n i h
     go (no k) = get_or-eq_default (tabulate task_limit (entry l n)) 0 (rw (length_tabulate task_limit (entry l n)) (omega arith))
+
+-- where the other value is 0, they are the entries of a state
+pub first_cleared : (n : ℕ) (l held : List ℕ) → First n 0 l held → held ≡ cleared n l
+unfolding cleared entry
+first_cleared n l held first = ext_get_or 0 held (cleared n l) (first.room ∙ sym (length_tabulate task_limit (entry l n))) same_entry
+  where
+    same_entry : (i : ℕ) → i < length held → get_or held i 0 ≡ get_or (cleared n l) i 0
+    same_entry i h = go (dec_lt i n)
+      where
+        go : Dec (i < n) → get_or held i 0 ≡ get_or (cleared n l) i 0
+        go (yes k) = first.taken i k (omega (arith, h, first.room)) ∙ sym (cleared_first n l i k (omega (arith, h, first.room)))
+        go (no k) = first.past i (omega arith) ∙ sym (cleared_past n l i (omega arith))
 
 -- a list of n entries within the room is there in full
 module _ (n : ℕ) (l : List ℕ) (long : length l ≡ n) (few : n ≤ task_limit) where

@@ -3,7 +3,7 @@
 
 ghost use Rattle.std.specs.Prelude.{◌≡◌};
 ghost use Rattle.state.specs.State.{beginning, cleared, fresh, zero_run};
-ghost use Rattle.state.specs.Working.Entries.{Entries};
+ghost use Rattle.state.specs.Working.Entries.{Entries, First};
 
 use job::Job;
 use units::TASK_LIMIT;
@@ -44,27 +44,13 @@ fn entries(n: usize, length: usize) -> usize
     TASK_LIMIT.min(n).min(length)
 }
 
-// The weights of n tasks, and 0 past them.
-fn first_weights(weights: [u32; TASK_LIMIT], n: usize) -> [u32; TASK_LIMIT]
-    ensures { result ≡ cleared n weights }
+// The entries of n tasks, and `zero` past them.
+fn first_entries<T: Copy>(list: &[T], n: usize, zero: T) -> [T; TASK_LIMIT]
+    ensures { First n zero list.now result }
 {
-    let most = entries(n, TASK_LIMIT);
-    let mut held = [0u32; TASK_LIMIT];
-    for j in 0..most {
-        held[j] = weights[j];
-    }
-    held
-}
-
-// The marks of n tasks, and 0 past them.
-fn first_marks(marks: &[u8], n: usize) -> [u8; TASK_LIMIT]
-    ensures { result ≡ cleared n marks.now }
-{
-    let most = entries(n, marks.len());
-    let mut held = [0u8; TASK_LIMIT];
-    for j in 0..most {
-        held[j] = marks[j];
-    }
+    let most = entries(n, list.len());
+    let mut held = [zero; TASK_LIMIT];
+    held[..most].copy_from_slice(&list[..most]);
     held
 }
 
@@ -96,14 +82,10 @@ impl Run {
     pub fn fresh(job: Job, marks: &[u8]) -> Run
         ensures { result ≡ fresh job marks.now }
     {
-        let given = job.weights;
-        let weights = first_weights(given, job.tasks);
-        let held = first_marks(marks, job.tasks);
-        let mut own = job;
-        own.weights = weights;
+        let weights = first_entries(&job.weights, job.tasks, 0);
         Run {
-            job: own,
-            marks: held,
+            job: Job { weights, ..job },
+            marks: first_entries(marks, job.tasks, 0),
             place: Place::beginning(),
         }
     }
