@@ -16,8 +16,7 @@ use Rattle.planning.specs.Energy.{energy_refusal, LeastEnergy}
 use Rattle.planning.proofs.ByEnergy.{energy_some_task, energy_once, energy_least}
 use Rattle.numerals.specs.Digits.{base}
 use Rattle.output.specs.Words.{energy_word}
-use Rattle.output.specs.Texts.{blank_marks, text_of, plan_text}
-use Rattle.output.specs.declared.Text.{Text}
+use Rattle.output.specs.Texts.{blank_marks, text_of, plan_text, Text}
 use Rattle.output.proofs.Prints.{prints_once}
 use Rattle.output.proofs.Tells.{plan_told, marks_told}
 use Rattle.energy.specs.Prints.{SheetPrints}

@@ -15,9 +15,8 @@ use Rattle.naming.specs.Calls.{answered}
 use Rattle.naming.specs.Log.{log_of, empty_log, applied, or_before}
 use Rattle.naming.specs.declared.NamedStepped.{NamedStepped}
 use Rattle.commands.proofs.Logs.{two_logs}
-use Rattle.output.specs.Texts.{refused_text, standing_text}
+use Rattle.output.specs.Texts.{refused_text, standing_text, Text}
 use Rattle.follow.specs.Prints.{named_text, Leads, LogLeads}
-use Rattle.output.specs.declared.Text.{Text}
 use Rattle.std.specs.Prelude.{Result, Ok, Err}
 
 pub text_refused : (s : NamedStepped) → (s.number ≡ Numbers.accepted → ⊥) → named_text s ≡ refused_text s.number

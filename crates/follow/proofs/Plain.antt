@@ -17,8 +17,7 @@ use Rattle.naming.specs.Log.{log_of, beside}
 use Rattle.naming.specs.Turns.{Call, call_of, in_turn}
 use Rattle.naming.specs.Turns.Call.{logged}
 use Rattle.naming.proofs.Once.{log_beside}
-use Rattle.output.specs.Texts.{refused_text, run_text, held_text, standing_text}
-use Rattle.output.specs.declared.Text.{Text}
+use Rattle.output.specs.Texts.{refused_text, run_text, held_text, standing_text, Text}
 use Rattle.follow.specs.Prints.{named_text, unnamed, Unread, RunPrints, CallPrints}
 use Rattle.follow.specs.Plain.{followed_text, PlainText, PlainPrints}
 use Rattle.follow.proofs.Turns.{one_call}

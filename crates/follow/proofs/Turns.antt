@@ -15,8 +15,7 @@ use Rattle.naming.specs.Turns.{Call, call_of, in_turn}
 use Rattle.naming.specs.Turns.Call.{logged}
 use Rattle.naming.specs.declared.NamedStepped.{NamedStepped}
 use Rattle.output.specs.Words.{name_word, drop_word, return_word}
-use Rattle.output.specs.Texts.{standing_text, Holds}
-use Rattle.output.specs.declared.Text.{Text}
+use Rattle.output.specs.Texts.{standing_text, Holds, Text}
 use Rattle.follow.specs.Prints.{named_text, unnamed, Unread, Leads, Lost, LogLed, CallLed, TurnsPrint, RunPrints, FollowPrints, CallPrints}
 use Rattle.std.specs.Prelude.{Result, Ok, Err}
 

@@ -7,8 +7,7 @@ use Rattle.starting.specs.Start.{start_of}
 use Rattle.logs.specs.Log.{log_of}
 use Rattle.output.specs.Words.{log_word}
 use Rattle.output.specs.Files.{FileTold}
-use Rattle.output.specs.Texts.{refused_text, run_text, Holds}
-use Rattle.output.specs.declared.Text.{Text}
+use Rattle.output.specs.Texts.{refused_text, run_text, Holds, Text}
 use Rattle.follow.specs.Prints.{Unread}
 
 -- the text of what following a log gives: where the run stands and what it has counted, or the refusal

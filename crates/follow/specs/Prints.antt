@@ -11,8 +11,7 @@ use Rattle.naming.specs.Turns.Call.{logged, named, dropped, returned}
 use Rattle.naming.specs.declared.NamedStepped.{NamedStepped}
 use Rattle.output.specs.Words.{endless_words, log_word, name_word, drop_word, return_word}
 use Rattle.output.specs.Files.{FileTold}
-use Rattle.output.specs.Texts.{refused_text, complaint_text, standing_text, Holds}
-use Rattle.output.specs.declared.Text.{Text}
+use Rattle.output.specs.Texts.{refused_text, complaint_text, standing_text, Holds, Text}
 use Rattle.follow.specs.declared.Command.{Command}
 use Rattle.follow.specs.declared.Command.TheVariants.{Name, Drop, Return, Log}
 

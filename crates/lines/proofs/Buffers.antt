@@ -1,21 +1,14 @@
 -- Texts put into a buffer one after the other are one text, and the bytes up to its end are what stood before it, and the text. Assumes nothing.
-use Prim.Native.Nat.{ℕ, ◌+◌, ◌-◌, ◌/◌, ◌%◌, ◌≤◌, ◌<◌}
+use Prim.Native.Nat.{ℕ, ◌+◌, ◌-◌, ◌≤◌, ◌<◌}
 use mathlib.Core.Path.{◌≡◌, refl, sym, ◌∙◌}
 use mathlib.Core.List.{List, [], ◌∷◌, ◌++◌, append_assoc}
 use borrow.Rule.Slice.PartMut.{put_mid, Post-is}
 use native.Mathlib.Numerals.{add-one}
 use native.Mathlib.Omega.{arith}
-use lib.ListN.{length, take, drop, set, get_or, length-append}
+use lib.ListN.{length, take, drop, get_or, length-append}
 use lib.Seq.{sets-eq, length-sets, take_at, take-suc, take_all, length-take-le}
 use Rattle.fields.proofs.Stores.{sets_append}
-use Rattle.numerals.specs.Digits.{base}
-use Rattle.numerals.specs.Decimal.{digit, decimal}
-use Rattle.numerals.proofs.Decimals.{decimal_digit, decimal_more}
 use Rattle.lines.specs.Lines.{Room, Puts}
-
--- a byte
-pub puts_byte : (b : List ℕ) (at x : ℕ) → Puts b (set b at x) at (at + 1) (x ∷ [])
-puts_byte b at x = record { ends = refl; stored = refl }
 
 -- the bytes of a text, copied into their part of the buffer
 pub puts_copied : (b text bytes : List ℕ) (at : ℕ) → Room b at text → bytes ≡ text
@@ -56,29 +49,25 @@ pub puts_text : {a b : List ℕ} {end : ℕ} {x : List ℕ} → Room a 0 x → P
 puts_text room f = puts_front room f
 
 -- the first j bytes of a text are put
-pub record Putting (before out text : List ℕ) (at j : ℕ) : Type 0 where
+pub record Putting (before out text : List ℕ) (at end j : ℕ) : Type 0 where
   pub within : j ≤ length text
-  pub front : Puts before out at (at + j) (take j text)
+  pub front : Puts before out at end (take j text)
 
-pub putting_none : (b text : List ℕ) (at : ℕ) → Putting b b text at 0
-putting_none b text at = record { within = omega arith; front = record { ends = refl; stored = refl } }
+pub putting_none : (b text : List ℕ) (at : ℕ) → Putting b b text at at 0
+putting_none b text at = record { within = omega arith; front = record { ends = omega arith; stored = refl } }
 
 -- one byte more
-pub putting_more : {a b text : List ℕ} {at j : ℕ} (x : ℕ) → j < length text → get_or text j 0 ≡ x → Putting a b text at j
-    → Putting a (set b (at + j) x) text at (j + 1)
-putting_more {a} {b} {text} {at} {j} x h e p =
-    let more = puts_then p.front (puts_byte b (at + j) x) in
+pub putting_more : {a b c text : List ℕ} {at mid end j : ℕ} (x : ℕ) → j < length text → get_or text j 0 ≡ x → Putting a b text at mid j
+    → Puts b c mid end (x ∷ []) → Putting a c text at end (j + 1)
+putting_more {a} {b} {c} {text} {at} {mid} {end} {j} x h e p byte =
     let front : take (j + 1) text ≡ take j text ++ (x ∷ []) = rw (add-one j, take-suc text j 0 h, e) refl in
-    record { within = omega arith; front = record { ends = rw front (omega (arith, more.ends)); stored = rw front more.stored } }
+    record { within = omega arith; front = rw front (puts_then p.front byte) }
+
+-- which there is room for
+pub putting_room : {a b text : List ℕ} {at mid j : ℕ} (x : ℕ) → Room a at text → j < length text → Putting a b text at mid j → Room b mid (x ∷ [])
+putting_room {a} {b} {text} {at} {mid} {j} x room h p =
+    record { fits = omega (arith, room.fits, p.front.ends, puts_length p.front, length-take-le j text (omega arith)) }
 
 -- all of them
-pub putting_all : {a b text : List ℕ} {at j : ℕ} → length text ≤ j → Putting a b text at j → Puts a b at (at + j) text
-putting_all {a} {b} {text} {at} {j} h p = let all : take j text ≡ text = take_all j text h in rw all at p.front
-
--- a number of one digit, and one digit more
-pub puts_digit : (b : List ℕ) (at n : ℕ) → n < base → Puts b (set b at (digit n)) at (at + 1) (decimal n)
-puts_digit b at n h = rw (decimal_digit n h) (puts_byte b at (digit n))
-
-pub puts_last : {a b : List ℕ} {at last : ℕ} (n : ℕ) → base ≤ n → Puts a b at last (decimal (n / base))
-    → Puts a (set b last (digit (n % base))) at (last + 1) (decimal n)
-puts_last {a} {b} {at} {last} n h p = rw (decimal_more n h) (puts_then p (puts_byte b last (digit (n % base))))
+pub putting_all : {a b text : List ℕ} {at end j : ℕ} → length text ≤ j → Putting a b text at end j → Puts a b at end text
+putting_all {a} {b} {text} {at} {end} {j} h p = let all : take j text ≡ text = take_all j text h in rw all at p.front

@@ -13,10 +13,11 @@ use Rattle.numerals.specs.Digits.{word_most}
 use Rattle.numerals.specs.Decimal.{decimal}
 use Rattle.numerals.proofs.Decimals.{decimal_word}
 use Rattle.lines.specs.Lines.{space, number_line, Room, Puts}
+use Rattle.lines.specs.declared.Text.{Text}
 use Rattle.lines.proofs.Buffers.{puts_then, puts_length}
 use Rattle.output.specs.Words.{name_word, position_word}
 use Rattle.output.specs.Texts.{held_line, held_text, line_room, run_lines, held_room, text_room, Holds}
-use Rattle.output.specs.Working.Ready.{ReadyForEntries, PutsWithin}
+use Rattle.output.specs.Working.Ready.{PutsWithin}
 use Rattle.output.proofs.Lengths.{room_empty, room_holds, line_fits}
 
 -- a name and a position of 64 bits
@@ -50,17 +51,17 @@ text_more entries j h =
     rw (add-one j, take-suc entries j no_held h, texts_append (take j entries) (get_or entries j no_held ∷ []), one_text (get_or entries j no_held)) refl
 
 -- the lines of the first j entries are put
-pub record PuttingEntries (before out : List ℕ) (entries : List Held) (at end n j : ℕ) : Type 0 where
-  pub few : j ≤ n
+pub record PuttingEntries (before out : List ℕ) (entries : List Held) (at end j : ℕ) : Type 0 where
+  pub few : j ≤ length entries
   pub put : PutsWithin before out at end (j * held_room) (held_text (take j entries))
 
-pub entries_none : (b : List ℕ) (entries : List Held) (at n : ℕ) → PuttingEntries b b entries at at n 0
+pub entries_none : (b : List ℕ) (entries : List Held) (at : ℕ) → PuttingEntries b b entries at at 0
 unfolding held_text
-entries_none b entries at n = record { few = omega arith; put = record { puts = record { ends = omega arith; stored = refl }; within = omega arith } }
+entries_none b entries at = record { few = omega arith; put = record { puts = record { ends = omega arith; stored = refl }; within = omega arith } }
 
-pub entries_more : {a b c : List ℕ} {entries : List Held} {at mid end n j : ℕ} → j < n → j < length entries
-    → PuttingEntries a b entries at mid n j → PutsWithin b c mid end held_room (held_line (get_or entries j no_held)) → PuttingEntries a c entries at end n (j + 1)
-entries_more {a} {b} {c} {entries} {at} {mid} {end} {n} {j} less h p q =
+pub entries_more : {a b c : List ℕ} {entries : List Held} {at mid end j : ℕ} → j < length entries → PuttingEntries a b entries at mid j
+    → PutsWithin b c mid end held_room (held_line (get_or entries j no_held)) → PuttingEntries a c entries at end (j + 1)
+entries_more {a} {b} {c} {entries} {at} {mid} {end} {j} h p q =
     record {
       few = omega arith;
       put =
@@ -70,14 +71,17 @@ entries_more {a} {b} {c} {entries} {at} {mid} {end} {n} {j} less h p q =
           };
     }
 
-pub entries_all : {a b : List ℕ} {entries : List Held} {at end n j : ℕ} → n ≤ j → PuttingEntries a b entries at end n j
-    → PutsWithin a b at end (n * held_room) (held_text (take n entries))
-entries_all {a} {b} {entries} {at} {end} {n} {j} h p = let e : j ≡ n = omega (arith, p.few) in rw e at p.put
+pub entries_all : {a b : List ℕ} {entries : List Held} {at end j : ℕ} → length entries ≤ j → PuttingEntries a b entries at end j
+    → PutsWithin a b at end (length entries * held_room) (held_text entries)
+entries_all {a} {b} {entries} {at} {end} {j} h p =
+    let e : j ≡ length entries = omega (arith, p.few) in
+    let all : take j entries ≡ entries = take_all j entries h in
+    rw (← e) (rw all at p.put)
 
 -- the room that is left for the next
-pub entries_room : {a b : List ℕ} {entries : List Held} {at end n j : ℕ} → j < n → at + n * held_room ≤ length a → PuttingEntries a b entries at end n j
-    → end + held_room ≤ length b
-entries_room {a} {b} {entries} {at} {end} {n} {j} h room p = omega (arith, p.put.within, p.put.puts.ends, puts_length p.put.puts)
+pub entries_room : {a b : List ℕ} {entries : List Held} {at end j : ℕ} → j < length entries → at + length entries * held_room ≤ length a
+    → PuttingEntries a b entries at end j → end + held_room ≤ length b
+entries_room {a} {b} {entries} {at} {end} {j} h room p = omega (arith, p.put.within, p.put.puts.ends, puts_length p.put.puts)
 
 -- more than the limit are all that there are
 pub shown_entries : (count : ℕ) (entries : List Held) (n : ℕ) → length entries ≡ name_limit → n ≡ min count name_limit → take n entries ≡ take count entries
@@ -88,11 +92,11 @@ shown_entries count entries n long e = go (dec_le count name_limit)
     go (no h) = take_all n entries (omega (arith, long)) ∙ sym (take_all count entries (omega (arith, long)))
 
 -- the lines of a run leave room for those of its names, and together they are one text
-module _ {a b run : List ℕ} {mid n : ℕ} (room : text_room ≡ length a) (short : length run ≤ run_lines * line_room) (few : n ≤ name_limit)
-    (put : Puts a b 0 mid run) where
-  pub entries_after : ReadyForEntries b mid n
-  entries_after = record { few = few; room = omega (arith, put.ends, puts_length put) }
+module _ {a b run : List ℕ} {at mid n : ℕ} (e : at ≡ 0) (long : length a ≡ text_room) (short : length run ≤ run_lines * line_room) (few : n ≤ name_limit)
+    (put : Puts a b at mid run) where
+  pub entries_after : mid + n * held_room ≤ length b
+  entries_after = omega (arith, put.ends, puts_length put)
 
-  pub standing_holds : {c text : List ℕ} {end : ℕ} → PutsWithin b c mid end (n * held_room) text → Holds (run ++ text) (record { bytes = c; length = end })
-  standing_holds {c} {text} {end} p =
-      room_holds (room_empty room (omega (arith, few, short, p.within, length-append run text))) (puts_then put p.puts)
+  pub standing_holds : {text : List ℕ} {r : Text} → PutsWithin b r.bytes mid r.length (n * held_room) text → Holds (run ++ text) r
+  standing_holds {text} {r} p =
+      room_holds e (room_empty e long (omega (arith, few, short, p.within, length-append run text))) (puts_then put p.puts)

@@ -1,6 +1,6 @@
 -- No text is longer than its room, and a text put into an empty room from its start is what the room holds. Assumes nothing.
-use Prim.Native.Nat.{ℕ, ◌+◌, ◌*◌, ◌≤◌}
-use mathlib.Core.Path.{◌≡◌, refl}
+use Prim.Native.Nat.{ℕ, ◌*◌, ◌≤◌}
+use mathlib.Core.Path.{◌≡◌, refl, ◌∙◌}
 use mathlib.Core.Bool.{Bool, true, false, cond}
 use mathlib.Core.List.{List, ◌∷◌, ◌++◌}
 use native.Mathlib.Omega.{arith}
@@ -15,19 +15,20 @@ use Rattle.state.specs.declared.Place.{Place}
 use Rattle.numerals.specs.Digits.{word_most}
 use Rattle.lines.specs.Lines.{space, words_line, number_line, marks_line, Room, Puts}
 use Rattle.lines.proofs.Lines.{numbered_most, length_words, length_marked}
-use Rattle.lines.proofs.Buffers.{puts_text, puts_length}
+use Rattle.lines.specs.declared.Text.{Text}
+use Rattle.lines.proofs.Buffers.{puts_front, puts_length}
 use Rattle.output.specs.Words.{marks_word, kept_word, redone_word, verify_word, saves_word, recovery_word, position_word, awaited_word, yes_word, no_word, time_word}
 use Rattle.output.specs.Texts.{refused_text, complaint_text, plan_text, price_text, awaited_text, sums_text, run_text, longest_word, line_room, run_lines, text_room, Holds}
 use Rattle.output.specs.Working.Ready.{ReadyForComplaint}
 
--- an empty room takes each text that is short enough
-pub room_empty : {a text : List ℕ} → text_room ≡ length a → length text ≤ text_room → Room a 0 text
-room_empty {a} {text} e h = record { fits = omega arith }
+-- an empty text takes each text that is short enough
+pub room_empty : {a text : List ℕ} {at : ℕ} → at ≡ 0 → length a ≡ text_room → length text ≤ text_room → Room a at text
+room_empty {a} {text} e long h = record { fits = omega arith }
 
 -- and holds it
-pub room_holds : {a b text : List ℕ} {end : ℕ} → Room a 0 text → Puts a b 0 end text → Holds text (record { bytes = b; length = end })
-room_holds {a} {b} {text} {end} room p =
-    record { within = omega (arith, room.fits, p.ends, puts_length p); bytes = puts_text room p }
+pub room_holds : {a text : List ℕ} {at : ℕ} {r : Text} → at ≡ 0 → Room a at text → Puts a r.bytes at r.length text → Holds text r
+room_holds {a} {text} {at} {r} e room p =
+    record { within = omega (arith, room.fits, p.ends, puts_length p); bytes = puts_front room p ∙ rw e refl }
 
 -- a word and a number of 64 bits
 pub line_fits : (word : List ℕ) (n : ℕ) → length word ≤ longest_word → n ≤ word_most → length (number_line word n) ≤ line_room
@@ -90,8 +91,8 @@ run_fits place h w =
       sums_fit place.sums w,
     ))
 
-pub room_run : {a text : List ℕ} → text_room ≡ length a → length text ≤ run_lines * line_room → Room a 0 text
-room_run e h = room_empty e (omega arith)
+pub room_run : {a text : List ℕ} {at : ℕ} → at ≡ 0 → length a ≡ text_room → length text ≤ run_lines * line_room → Room a at text
+room_run e long h = room_empty e long (omega arith)
 
 -- an answer that is refused, and one that is not
 pub plan_refused : (word : List ℕ) (answer : Answer) (marks : List ℕ) → (answer.number ≡ Numbers.accepted → ⊥) → plan_text word answer marks ≡ refused_text answer.number

@@ -4,7 +4,7 @@ use mathlib.Core.Path.{◌≡◌, refl, sym, ◌∙◌}
 use mathlib.Core.List.{List}
 use Rattle.refusals.specs.declared.Answer.{Answer}
 use Rattle.output.specs.Texts.{blank_marks, text_of, Holds, PlanPrints}
-use Rattle.output.specs.declared.Text.{Text}
+use Rattle.lines.specs.declared.Text.{Text}
 
 -- texts that are held are the same where what they hold is
 pub holds_once : {a b : List ℕ} {r q : Text} → a ≡ b → Holds a r → Holds b q → text_of r ≡ text_of q

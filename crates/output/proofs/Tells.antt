@@ -1,7 +1,7 @@
 -- The text of an answer tells the answer: its first letter says whether there is a refusal, the digits up to the end of the first line are the number or the
 -- figure, and those of the second line are the marks. Two lines that are the same are the same up to their ends, since a digit is no end of a line.
 -- Assumes nothing.
-use Prim.Native.Nat.{ℕ, zero, suc, ◌+◌, ◌%◌, ◌<◌}
+use Prim.Native.Nat.{ℕ, zero, suc, ◌%◌, ◌<◌}
 use mathlib.Core.Path.{◌≡◌, refl, sym, ◌∙◌, ap}
 use mathlib.Core.Logic.{◌≢◌}
 use mathlib.Core.List.{List, [], ◌∷◌, ◌++◌, append_assoc}

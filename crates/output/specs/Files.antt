@@ -4,7 +4,7 @@ use Rattle.lines.specs.Lines.{space, words_line}
 use Rattle.output.specs.Letters.{a, b, c, d, e, f, g, i, m, n, o, r, s, t, y, colon}
 use Rattle.output.specs.Words.{cannot_read}
 use Rattle.output.specs.Texts.{path_room, Holds}
-use Rattle.output.specs.declared.Text.{Text}
+use Rattle.lines.specs.declared.Text.{Text}
 
 -- which file it is, and its name
 unfoldable pub named_text : (which path : List ℕ) → List ℕ

@@ -25,7 +25,7 @@ use Rattle.output.specs.Words.{
   recovery_word,
   name_word,
 }
-use Rattle.output.specs.declared.Text.{Text}
+pub use Rattle.lines.specs.declared.Text.{Text}
 
 -- 'one line, the word and the number, as in `refused 6`'
 unfoldable pub refused_text : ℕ → List ℕ

@@ -5,65 +5,26 @@
 mod entries;
 mod files;
 
-ghost use Rattle.std.specs.Prelude.{◌≡◌, ◌≤◌, length, take};
+ghost use Rattle.std.specs.Prelude.{◌≤◌, length, take};
 ghost use Rattle.lines.specs.Lines.{number_line, Room, Puts};
-ghost use Rattle.output.specs.Texts.{refused_text, complaint_text, plan_text, price_text, awaited_text, sums_text, run_text, longest_word, text_room, Holds};
+ghost use Rattle.output.specs.Texts.{refused_text, complaint_text, plan_text, price_text, awaited_text, sums_text, run_text, longest_word, Holds};
 ghost use Rattle.output.specs.Working.Ready.{ReadyForComplaint, ReadyForPlan};
 
 pub use entries::standing_text;
 pub use files::{unknown_word, unreadable};
-use lines::{put, put_marked, put_numbered, put_words};
-use names::NAME_LIMIT;
+pub use lines::{PATH_ROOM, TEXT_ROOM, Text};
 use refusals::{ACCEPTED, Answer};
 use state::{Place, Sums};
 use units::TASK_LIMIT;
-
-// The longest word of a line.
-const LONGEST_WORD: usize = 8;
-
-// The most digits of a number of 64 bits.
-const WORD_DIGITS: usize = 20;
-
-// A word, a number, the space between them and the line's end.
-const LINE_ROOM: usize = LONGEST_WORD + WORD_DIGITS + 2;
-
-// The lines of a run.
-const RUN_LINES: usize = 7;
-
-// The line of a held name: two words and two numbers.
-const HELD_ROOM: usize = 2 * LINE_ROOM;
-
-// The longest name of a file.
-pub const PATH_ROOM: usize = 4096;
-
-// The lines of a run and of all names that it may hold, a digit for each task, and the name of a file.
-pub const TEXT_ROOM: usize = RUN_LINES * LINE_ROOM
-    + NAME_LIMIT * HELD_ROOM
-    + TASK_LIMIT
-    + PATH_ROOM;
-
-// A text: the first bytes of its room, and how many they are.
-#[derive(Clone, Copy)]
-pub struct Text {
-    pub bytes: [u8; TEXT_ROOM],
-    pub length: usize,
-}
-
-// An empty room. The `ensures` gives only the length, which lending the array as a slice needs.
-fn room() -> [u8; TEXT_ROOM]
-    ensures { text_room ≡ length result }
-{
-    [0u8; TEXT_ROOM]
-}
 
 // A word and its number.
 pub fn numbered_text(word: &[u8], n: u64) -> Text
     requires { length word.now ≤ longest_word }
     ensures { Holds (number_line word.now n) result }
 {
-    let mut bytes = room();
-    let length = put_numbered(&mut bytes, 0, word, n);
-    Text { bytes, length }
+    let mut text = Text::new();
+    text.put_numbered(word, n);
+    text
 }
 
 // The number of a refusal.
@@ -78,10 +39,10 @@ pub fn complaint(words: &[u8], which: &[u8]) -> Text
     requires { ReadyForComplaint words.now which.now }
     ensures { Holds (complaint_text words.now which.now) result }
 {
-    let mut bytes = room();
-    let end = put(&mut bytes, 0, words);
-    let length = put_words(&mut bytes, end, which);
-    Text { bytes, length }
+    let mut text = Text::new();
+    text.put(words);
+    text.put_words(which);
+    text
 }
 
 // The answer of a planner: the word for its figure and the figure, then one digit for each of n tasks; or the number of its refusal. The programs call this with
@@ -93,10 +54,10 @@ pub fn plan_text(word: &[u8], answer: Answer, marks: [u8; TASK_LIMIT], n: usize)
     if answer.number != ACCEPTED {
         return refused_text(answer.number);
     }
-    let mut bytes = room();
-    let end = put_numbered(&mut bytes, 0, word, answer.time);
-    let length = put_marked(&mut bytes, end, b"marks", &marks[..n]);
-    Text { bytes, length }
+    let mut text = Text::new();
+    text.put_numbered(word, answer.time);
+    text.put_marked(b"marks", &marks[..n]);
+    text
 }
 
 // The time of marks that a user supplies, or the number of their refusal.
@@ -110,43 +71,44 @@ pub fn price_text(answer: Answer) -> Text
 }
 
 // Whether a verification is awaited.
-fn put_awaited(out: &mut [u8], at: usize, awaiting: u8) -> usize
-    requires { Room out.old at (awaited_text awaiting) }
-    ensures { Puts out.old out.new at result (awaited_text awaiting) }
+fn put_awaited(text: &mut Text, awaiting: u8)
+    requires { Room text.old.bytes text.old.length (awaited_text awaiting) }
+    ensures { Puts text.old.bytes text.new.bytes text.old.length text.new.length (awaited_text awaiting) }
 {
     if awaiting == 0 {
-        return put_words(out, at, b"awaited no");
+        text.put_words(b"awaited no");
+    } else {
+        text.put_words(b"awaited yes");
     }
-    put_words(out, at, b"awaited yes")
 }
 
 // The five sums of a run.
-fn put_sums(out: &mut [u8], at: usize, sums: Sums) -> usize
-    requires { Room out.old at (sums_text sums) }
-    ensures { Puts out.old out.new at result (sums_text sums) }
+fn put_sums(text: &mut Text, sums: Sums)
+    requires { Room text.old.bytes text.old.length (sums_text sums) }
+    ensures { Puts text.old.bytes text.new.bytes text.old.length text.new.length (sums_text sums) }
 {
-    let kept = put_numbered(out, at, b"kept", sums.kept);
-    let redone = put_numbered(out, kept, b"redone", sums.redone);
-    let verify = put_numbered(out, redone, b"verify", sums.verify);
-    let saves = put_numbered(out, verify, b"saves", sums.saves);
-    put_numbered(out, saves, b"recovery", sums.recovery)
+    text.put_numbered(b"kept", sums.kept);
+    text.put_numbered(b"redone", sums.redone);
+    text.put_numbered(b"verify", sums.verify);
+    text.put_numbered(b"saves", sums.saves);
+    text.put_numbered(b"recovery", sums.recovery);
 }
 
 // Where a run stands, and what it has counted.
-fn put_run(out: &mut [u8], at: usize, place: Place) -> usize
-    requires { Room out.old at (run_text place) }
-    ensures { Puts out.old out.new at result (run_text place) }
+fn put_run(text: &mut Text, place: Place)
+    requires { Room text.old.bytes text.old.length (run_text place) }
+    ensures { Puts text.old.bytes text.new.bytes text.old.length text.new.length (run_text place) }
 {
-    let position = put_numbered(out, at, b"position", place.position as u64);
-    let awaited = put_awaited(out, position, place.awaiting);
-    put_sums(out, awaited, place.sums)
+    text.put_numbered(b"position", place.position as u64);
+    put_awaited(text, place.awaiting);
+    put_sums(text, place.sums);
 }
 
 // The same, in its room.
 pub fn run_text(place: Place) -> Text
     ensures { Holds (run_text place) result }
 {
-    let mut bytes = room();
-    let length = put_run(&mut bytes, 0, place);
-    Text { bytes, length }
+    let mut text = Text::new();
+    put_run(&mut text, place);
+    text
 }

@@ -17,8 +17,7 @@ use Rattle.answers.proofs.Answers.{checked_result}
 use Rattle.planning.proofs.Theorems.{some_task, plan_once, plan_prices}
 use Rattle.numerals.specs.Digits.{base}
 use Rattle.output.specs.Words.{time_word}
-use Rattle.output.specs.Texts.{blank_marks, text_of, plan_text}
-use Rattle.output.specs.declared.Text.{Text}
+use Rattle.output.specs.Texts.{blank_marks, text_of, plan_text, Text}
 use Rattle.output.proofs.Prints.{prints_once}
 use Rattle.output.proofs.Tells.{plan_told, marks_told}
 use Rattle.plan.specs.Prints.{SheetPrints}

@@ -18,8 +18,7 @@ use Rattle.engine.specs.Promise.{printed_limit, printed_refusal, PlansAsPrinted}
 use Rattle.engine.proofs.Answers.{printed_passed}
 use Rattle.engine.proofs.Theorems.{printed_is_plan}
 use Rattle.output.specs.Words.{time_word}
-use Rattle.output.specs.Texts.{blank_marks, text_of, PlanPrints}
-use Rattle.output.specs.declared.Text.{Text}
+use Rattle.output.specs.Texts.{blank_marks, text_of, PlanPrints, Text}
 use Rattle.output.proofs.Prints.{holds_once, prints_once}
 use Rattle.printed.specs.Prints.{SheetPrints}
 

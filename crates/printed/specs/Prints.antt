@@ -3,8 +3,7 @@ use Rattle.std.specs.Prelude.{ℕ, List}
 use Rattle.header.specs.Header.{tasks}
 use Rattle.engine.specs.Promise.{PlansAsPrinted}
 use Rattle.output.specs.Words.{time_word}
-use Rattle.output.specs.Texts.{PlanPrints}
-use Rattle.output.specs.declared.Text.{Text}
+use Rattle.output.specs.Texts.{PlanPrints, Text}
 
 -- the least time and the marks of the sheet's plan by the equations as printed, or its refusal
 abbrev pub SheetPrints : List ℕ → Text → Type 0

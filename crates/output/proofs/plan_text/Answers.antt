@@ -10,22 +10,22 @@ use Rattle.output.proofs.plan_text.Goals as goal
 pub returns-then-answer-ne-ACCEPTED : goal.returns-then-answer-ne-ACCEPTED
 returns-then-answer-ne-ACCEPTED c = rw (plan_refused _ c.args.answer _ (λ e. omega arith)) c.refused_text.ensures
 
-pub put_numbered-end-requires : goal.put_numbered-end-requires
-put_numbered-end-requires c =
+pub put_numbered-requires : goal.put_numbered-requires
+put_numbered-requires c =
     let n = c.args.n in
     let few : n ≤ task_limit = c.requires.few (omega arith) in
     let fits = plan_fits c.args.word.now c.args.answer.time c.args.marks n c.requires.short (omega (arith, c.well_formed)) few in
-    room_first _ (room_empty c.room-bytes.ensures fits)
+    room_first _ (room_empty c.new-text.ensures (omega arith) fits)
 
 pub slice_bounds-marks-end : goal.slice_bounds-marks-end
 slice_bounds-marks-end c = omega (arith, c.requires.few (omega arith))
 
-pub put_marked-length-requires : goal.put_marked-length-requires
-put_marked-length-requires c =
+pub put_marked-requires : goal.put_marked-requires
+put_marked-requires c =
     let n = c.args.n in
     let few : n ≤ task_limit = c.requires.few (omega arith) in
     let fits = plan_fits c.args.word.now c.args.answer.time c.args.marks n c.requires.short (omega (arith, c.well_formed)) few in
-    room_then (room_empty c.room-bytes.ensures fits) c.put_numbered-end.ensures
+    room_then (room_empty c.new-text.ensures (omega arith) fits) c.put_numbered.ensures
 
 pub returns : goal.returns
 returns c =
@@ -33,4 +33,4 @@ returns c =
     let few : n ≤ task_limit = c.requires.few (omega arith) in
     let fits = plan_fits c.args.word.now c.args.answer.time c.args.marks n c.requires.short (omega (arith, c.well_formed)) few in
     rw (plan_accepted _ c.args.answer (take n c.args.marks) (omega arith))
-    (room_holds (room_empty c.room-bytes.ensures fits) (puts_then c.put_numbered-end.ensures c.put_marked-length.ensures))
+    (room_holds c.new-text.ensures (room_empty c.new-text.ensures (omega arith) fits) (puts_then c.put_numbered.ensures c.put_marked.ensures))

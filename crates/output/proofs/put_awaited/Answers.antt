@@ -6,11 +6,11 @@ use Rattle.output.proofs.put_awaited.Goals as goal
 pub put_words-requires : goal.put_words-requires
 put_words-requires c = rw (awaited_no c.args.awaiting (omega arith)) at c.requires
 
+pub put_words-requires-else-awaiting-eq0 : goal.put_words-requires-else-awaiting-eq0
+put_words-requires-else-awaiting-eq0 c = rw (awaited_yes c.args.awaiting (λ e. omega arith)) at c.requires
+
 pub returns-then-awaiting-eq0 : goal.returns-then-awaiting-eq0
 returns-then-awaiting-eq0 c = rw (awaited_no c.args.awaiting (omega arith)) c.put_words.ensures
 
-pub put_words-requires-2 : goal.put_words-requires-2
-put_words-requires-2 c = rw (awaited_yes c.args.awaiting (λ e. omega arith)) at c.requires
-
-pub returns : goal.returns
-returns c = rw (awaited_yes c.args.awaiting (λ e. omega arith)) c.put_words-2.ensures
+pub returns-else-awaiting-eq0 : goal.returns-else-awaiting-eq0
+returns-else-awaiting-eq0 c = rw (awaited_yes c.args.awaiting (λ e. omega arith)) c.put_words-else-awaiting-eq0.ensures

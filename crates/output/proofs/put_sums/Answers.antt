@@ -3,33 +3,31 @@ use Rattle.output.specs.Texts.{sums_text}
 use Rattle.lines.proofs.Buffers.{room_first, room_then, puts_then}
 use Rattle.output.proofs.put_sums.Goals as goal
 
-pub put_numbered-kept-requires : goal.put_numbered-kept-requires
-unfolding sums_text
-put_numbered-kept-requires c = room_first _ c.requires
-
-pub put_numbered-redone-requires : goal.put_numbered-redone-requires
-unfolding sums_text
-put_numbered-redone-requires c =
-    room_first _ (room_then c.requires c.put_numbered-kept.ensures)
-
-pub put_numbered-verify-requires : goal.put_numbered-verify-requires
-unfolding sums_text
-put_numbered-verify-requires c =
-    room_first _ (room_then (room_then c.requires c.put_numbered-kept.ensures) c.put_numbered-redone.ensures)
-
-pub put_numbered-saves-requires : goal.put_numbered-saves-requires
-unfolding sums_text
-put_numbered-saves-requires c =
-    room_first _ (room_then (room_then (room_then c.requires c.put_numbered-kept.ensures) c.put_numbered-redone.ensures) c.put_numbered-verify.ensures)
-
 pub put_numbered-requires : goal.put_numbered-requires
 unfolding sums_text
-put_numbered-requires c =
-    room_then (room_then (room_then (room_then c.requires c.put_numbered-kept.ensures) c.put_numbered-redone.ensures) c.put_numbered-verify.ensures) c.put_numbered-saves.ensures
+put_numbered-requires c = room_first _ c.requires
+
+pub put_numbered-requires-2 : goal.put_numbered-requires-2
+unfolding sums_text
+put_numbered-requires-2 c = room_first _ (room_then c.requires c.put_numbered.ensures)
+
+pub put_numbered-requires-3 : goal.put_numbered-requires-3
+unfolding sums_text
+put_numbered-requires-3 c = room_first _ (room_then (room_then c.requires c.put_numbered.ensures) c.put_numbered-2.ensures)
+
+pub put_numbered-requires-4 : goal.put_numbered-requires-4
+unfolding sums_text
+put_numbered-requires-4 c =
+    room_first _ (room_then (room_then (room_then c.requires c.put_numbered.ensures) c.put_numbered-2.ensures) c.put_numbered-3.ensures)
+
+pub put_numbered-requires-5 : goal.put_numbered-requires-5
+unfolding sums_text
+put_numbered-requires-5 c =
+    room_then (room_then (room_then (room_then c.requires c.put_numbered.ensures) c.put_numbered-2.ensures) c.put_numbered-3.ensures) c.put_numbered-4.ensures
 
 pub returns : goal.returns
 unfolding sums_text
 returns c =
-    puts_then c.put_numbered-kept.ensures
-    (puts_then c.put_numbered-redone.ensures
-    (puts_then c.put_numbered-verify.ensures (puts_then c.put_numbered-saves.ensures c.put_numbered.ensures)))
+    puts_then c.put_numbered.ensures
+    (puts_then c.put_numbered-2.ensures
+    (puts_then c.put_numbered-3.ensures (puts_then c.put_numbered-4.ensures c.put_numbered-5.ensures)))
