@@ -2,7 +2,7 @@
 // The number of a refusal, and what cannot be read, have their line on standard error.
 #![tactic(auto)]
 
-ghost use Rattle.std.specs.Prelude.{◌≤◌, length};
+ghost use Rattle.std.specs.Prelude.{◌≤◌, length, IfSome};
 ghost use Rattle.output.specs.Texts.{line_room};
 ghost use Rattle.output.specs.Working.Ready.{ReadyForComplaint};
 
@@ -41,6 +41,7 @@ fn tell(rt: &HostRuntime, which: &[u8], path: &[u8], error: Option<i32>)
 // The sheet in the file of this name, at the start of the buffer; one that cannot be read has its line.
 fn read_file<'a>(rt: &HostRuntime, which: &[u8], path: &[u8], buf: &'a mut [u8]) -> Option<&'a [u8]>
     requires { length which.now ≤ line_room }
+    ensures { IfSome result (λ sheet. length sheet.now ≤ length buf.old) }
 {
     let error = match console::open(rt, path) {
         Ok(mut file) => match console::read_all(&mut file, buf) {
@@ -56,6 +57,7 @@ fn read_file<'a>(rt: &HostRuntime, which: &[u8], path: &[u8], buf: &'a mut [u8])
 // The sheet in the file that argument i names; one that cannot be read has its line.
 fn read_sheet<'a>(rt: &HostRuntime, i: usize, which: &[u8], buf: &'a mut [u8]) -> Option<&'a [u8]>
     requires { length which.now ≤ line_room }
+    ensures { IfSome result (λ sheet. length sheet.now ≤ length buf.old) }
 {
     let mut room = [0u8; PATH_ROOM];
     let Some(path) = console::argument(rt, i, &mut room) else {

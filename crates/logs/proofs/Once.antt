@@ -30,7 +30,7 @@ use Rattle.std.specs.Option.{is_some}
 use Rattle.std.specs.Result.{IsErr}
 use Rattle.refusals.specs.declared.Refusal.{Refusal}
 use Rattle.logs.specs.Log.{record_count, record_at, bad_record, event_of, read_event, recorded, applied, or_before, empty_log, log_of}
-use Rattle.logs.specs.Working.Once.{bad_first, refusal_before, recorded_on, applied_on, Ends}
+use Rattle.logs.specs.Working.Once.{bad_first, refusal_before, recorded_on, applied_on, Ends, stood}
 use Rattle.logs.proofs.Records.{recorded_bad, recorded_event, recorded_accepted, applied_suc, applied_stays, applied_first}
 
 -- an accepted record leaves a state that 21 accepts
@@ -209,7 +209,13 @@ none_told r event b e s = go (bad_record r) b (rw e at s)
     go false false q = refl
 
 -- a log that is refused before its first event, by what its test tells
-pub log_refused_told : (run : Run) (log : List ℕ) (r : Result Run Refusal) → IsErr r → told r ≡ refusal_before run log → stepped run r ≡ log_of run log
+pub log_refused_told : (run : Run) (log : List ℕ) (r : Result Place Refusal) → IsErr r → told r ≡ refusal_before run log → stood run r ≡ log_of run log
 log_refused_told run log (Ok next) failed e = absurd (false≢true failed)
 log_refused_told run log (Err refusal) failed e =
     rw e (log_refused_before run log (λ z. refusal_stays (number refusal) _ (number_positive refusal) e z))
+
+-- a refusal tells the same of the run as of its place
+pub err_stood : (run : Run) (r : Result Run Refusal) (q : Result Place Refusal) → IsErr r → told r ≡ told q → stepped run r ≡ stood run q
+err_stood run (Ok next) q failed e = absurd (false≢true failed)
+err_stood run (Err a) (Ok place) failed e = absurd (refusal_stays (number a) 0 (number_positive a) e refl)
+err_stood run (Err a) (Err b) failed e = ap (λ (n : ℕ). refused n run) e

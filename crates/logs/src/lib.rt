@@ -7,7 +7,7 @@ ghost use Rattle.following.specs.Working.Lent.{lent_run, ReadyForEvent};
 ghost use Rattle.following.specs.Run.{stepped};
 ghost use Rattle.refusals.specs.Checks.{told};
 ghost use Rattle.logs.specs.Log.{record_count, record_at, read_event, or_before, log_of};
-ghost use Rattle.logs.specs.Working.Once.{bad_first, refusal_before, applied_on, Ends};
+ghost use Rattle.logs.specs.Working.Once.{bad_first, refusal_before, applied_on, Ends, stood};
 
 use carried::{Carried, taken_up};
 use events::Event;
@@ -15,7 +15,7 @@ use fields::{byte, field};
 use following::{Lent, Stepped, answered, step};
 use refusals::Refusal;
 use rules::broken;
-use state::Run;
+use state::{Place, Run};
 
 const RECORD_LENGTH: usize = 5;
 
@@ -90,10 +90,10 @@ fn applied(lent: &Lent<'_>, start: Carried, log: &[u8]) -> Result<Carried, Refus
     Ok(carried)
 }
 
-// The log of a run that 21 accepts. Its weights and marks are lent.
-fn followed(run: Run, log: &[u8]) -> Result<Run, Refusal>
+// Where a run that 21 accepts stands after the log. Its weights and marks are lent.
+fn followed(run: Run, log: &[u8]) -> Result<Place, Refusal>
     requires { broken run ≡ false }
-    ensures { stepped run result ≡ or_before run (applied_on run log.now (record_count log.now)) }
+    ensures { stood run result ≡ or_before run (applied_on run log.now (record_count log.now)) }
 {
     let lent = Lent {
         tasks: run.job.tasks,
@@ -102,9 +102,7 @@ fn followed(run: Run, log: &[u8]) -> Result<Run, Refusal>
         marks: &run.marks,
     };
     let carried = applied(&lent, taken_up(run), log)?;
-    let mut last = run;
-    last.place = carried.place;
-    Ok(last)
+    Ok(carried.place)
 }
 
 // What is tested before the first event, even for an empty log: 12 of the first record, then 21.
@@ -120,12 +118,20 @@ pub fn check_before(run: Run, log: &[u8]) -> Result<(), Refusal>
     Ok(())
 }
 
-// The records of a log, read and applied in turn: the run after them, or the first refusal.
-pub fn after_log(run: Run, log: &[u8]) -> Result<Run, Refusal>
-    ensures { stepped run result ≡ log_of run log.now }
+// The records of a log, read and applied in turn: where the run stands after them, or the first refusal.
+pub fn place_after(run: Run, log: &[u8]) -> Result<Place, Refusal>
+    ensures { stood run result ≡ log_of run log.now }
 {
     check_before(run, log)?;
     followed(run, log)
+}
+
+// The same: the run after them.
+pub fn after_log(run: Run, log: &[u8]) -> Result<Run, Refusal>
+    ensures { stepped run result ≡ log_of run log.now }
+{
+    let place = place_after(run, log)?;
+    Ok(Run { place, ..run })
 }
 
 // The same; a refusal hands back the state from before the log.

@@ -6,10 +6,10 @@ use Rattle.refusals.specs.Checks.{number, told}
 use Rattle.refusals.specs.declared.Refusal.{Refusal}
 use Rattle.refusals.proofs.Checks.{number_positive}
 use Rattle.logs.proofs.Once.{refusal_stays}
-use Rattle.naming.specs.Calls.{named_stepped}
-use Rattle.following.specs.Run.{stepped}
+use Rattle.state.specs.declared.Place.{Place}
+use Rattle.naming.specs.Calls.{named_stepped, onward, at_place}
 use Prim.Native.Nat.{ℕ, zero, suc, ◌<◌}
-use mathlib.Core.Path.{◌≡◌, refl, sym, ◌∙◌, ap}
+use mathlib.Core.Path.{◌≡◌, refl, sym, ◌∙◌}
 use mathlib.Core.Bool.{Bool, true, false, cond, ◌||◌, false≢true}
 use mathlib.Core.List.{List}
 use native.Mathlib.Decide.{ℕ_discrete}
@@ -26,7 +26,7 @@ use Rattle.following.specs.Run as plain
 use Rattle.following.specs.declared.Stepped.{Stepped}
 use Rattle.logs.specs.Log as log
 use Rattle.logs.specs.Log.{record_count, record_at, bad_record, event_of}
-use Rattle.logs.specs.Working.Once.{bad_first, refusal_before}
+use Rattle.logs.specs.Working.Once.{bad_first, refusal_before, stood}
 use Rattle.logs.proofs.Once.{some_records}
 use Rattle.names.specs.declared.Names.{Names}
 use Rattle.named.specs.Named.{bad_names, broken_named}
@@ -89,9 +89,10 @@ module _ (state : NamedRun) (log : List ℕ) where
       go false true p q = rw (p, q) (named_broken state log p (rw q))
       go false false p q = absurd (r (rw (p, q)))
 
-  pub named_refused_told : (r : Result NamedRun Refusal) → IsErr r → told r ≡ refusal_before state.run log → named_stepped state r ≡ log_of state log
-  named_refused_told (Ok next) failed e = absurd (false≢true failed)
-  named_refused_told (Err refusal) failed e = rw e (named_refused_before (λ z. refusal_stays (number refusal) _ (number_positive refusal) e z))
+  pub named_refused_told : {A : Type 0} (next : A → NamedRun) (r : Result A Refusal) → IsErr r → told r ≡ refusal_before state.run log
+      → named_stepped state (onward next r) ≡ log_of state log
+  named_refused_told next (Ok found) failed e = absurd (false≢true failed)
+  named_refused_told next (Err refusal) failed e = rw e (named_refused_before (λ z. refusal_stays (number refusal) _ (number_positive refusal) e z))
 
   -- 21 of the names
   pub named_bad_names : refusal_before state.run log ≡ 0 → bad_names state.run.job (marks_in state.run) state.names ≡ true
@@ -104,12 +105,10 @@ module _ (state : NamedRun) (log : List ℕ) where
       go false true p q = named_broken state log p (rw q)
       go false false p q = named_broken state log p (rw (q, bad))
 
--- a refusal of the run is that of the run beside its names
-pub err_beside : (state : NamedRun) (r : Result NamedRun Refusal) (q : Result Run Refusal) → IsErr r → told r ≡ told q
-    → named_stepped state r ≡ beside state.names (stepped state.run q)
-err_beside state (Ok next) q failed e = absurd (false≢true failed)
-err_beside state (Err a) (Ok run) failed e = absurd (refusal_stays (number a) 0 (number_positive a) e refl)
-err_beside state (Err a) (Err b) failed e = ap (λ (n : ℕ). answered n state) e
+-- where a run stands or its refusal, beside the names of the state
+pub place_beside : (state : NamedRun) (r : Result Place Refusal) → named_stepped state (onward (at_place state) r) ≡ beside state.names (stood state.run r)
+place_beside state (Ok place) = refl
+place_beside state (Err refusal) = refl
 
 -- names that keep the rules beside a run
 abbrev Right : Names → Run → Type 0

@@ -8,6 +8,7 @@ use Rattle.state.specs.declared.Place.{Place}
 use Rattle.following.specs.Run.{standing}
 use Rattle.names.specs.Names.{name_limit, held_in, is_held, naming, dropping, place_under, holding}
 use Rattle.names.specs.declared.Held.{Held}
+use Rattle.names.specs.declared.Names.{Names}
 use Rattle.named.specs.Named.{broken_named}
 use Rattle.named.specs.declared.NamedRun.{NamedRun}
 use Rattle.naming.specs.declared.NamedStepped.{NamedStepped}
@@ -23,6 +24,15 @@ with_held state hs = record { run = state.run; names = holding state.names hs }
 -- the same names beside the run at another place
 abbrev pub at_place : NamedRun → Place → NamedRun
 at_place state place = record { run = standing state.run place; names = state.names }
+
+-- other names beside the same run
+abbrev pub with_names : NamedRun → Names → NamedRun
+with_names state names = record { run = state.run; names = names }
+
+-- where a call leads by what it finds; a refusal stays one
+abbrev pub onward : {A : Type 0} → (A → NamedRun) → Result A Refusal → Result NamedRun Refusal
+onward next (Ok found) = Ok (next found)
+onward next (Err refusal) = Err refusal
 
 -- an answer
 abbrev pub answered : ℕ → NamedRun → NamedStepped

@@ -2,13 +2,14 @@
 #![tactic(auto)]
 
 ghost use Rattle.std.specs.Prelude.{◌≡◌};
-ghost use Rattle.naming.specs.Calls.{named_stepped, name_of, drop_of, return_of};
+ghost use Rattle.naming.specs.Calls.{answered, named_stepped, onward, with_names, at_place, name_of, drop_of, return_of};
 ghost use Rattle.naming.specs.Log.{log_of};
 
-use logs::{after_log, check_before};
+use logs::{check_before, place_after};
 use named::{NamedRun, bad_names, broken_named};
-use names::{Held, NAME_LIMIT, put, slot_of, take_out};
+use names::{Held, NAME_LIMIT, Names, put, slot_of, take_out};
 use refusals::{ACCEPTED, Refusal};
+use state::Place;
 
 // The answer to a call: 0 and the next state, or the refusal and the state given. No Result: C takes it.
 #[repr(C)]
@@ -18,25 +19,15 @@ pub struct NamedStepped {
     pub state: NamedRun,
 }
 
-// The answer that tells a state, or a refusal and the state from before.
-fn answered(before: NamedRun, after: Result<NamedRun, Refusal>) -> NamedStepped
-    ensures { result ≡ named_stepped before after }
+fn answered(number: u64, state: NamedRun) -> NamedStepped
+    ensures { result ≡ answered number state }
 {
-    match after {
-        Ok(state) => NamedStepped {
-            number: ACCEPTED,
-            state,
-        },
-        Err(refusal) => NamedStepped {
-            number: refusal.number(),
-            state: before,
-        },
-    }
+    NamedStepped { number, state }
 }
 
-// The present place is held under this name, in place of one that it had.
-fn named(state: NamedRun, name: u8) -> Result<NamedRun, Refusal>
-    ensures { named_stepped state result ≡ name_of state name }
+// The names with the present place under this one, in place of one that it had.
+fn named(state: NamedRun, name: u8) -> Result<Names, Refusal>
+    ensures { named_stepped state (onward (with_names state) result) ≡ name_of state name }
 {
     if broken_named(state) {
         return Err(Refusal::Broken);
@@ -49,34 +40,32 @@ fn named(state: NamedRun, name: u8) -> Result<NamedRun, Refusal>
     }
     let place = run.place;
     let held = put(names, slot, Held { name, place });
-    Ok(NamedRun { run, names: held })
+    Ok(held)
 }
 
-// The name is held no longer.
-fn dropped(state: NamedRun, name: u8) -> Result<NamedRun, Refusal>
-    ensures { named_stepped state result ≡ drop_of state name }
+// The names without this one.
+fn dropped(state: NamedRun, name: u8) -> Result<Names, Refusal>
+    ensures { named_stepped state (onward (with_names state) result) ≡ drop_of state name }
 {
     if broken_named(state) {
         return Err(Refusal::Broken);
     }
-    let run = state.run;
     let names = state.names;
     let slot = slot_of(names, name);
     if slot == names.count {
         return Err(Refusal::NotHeld);
     }
     let held = take_out(names, slot);
-    Ok(NamedRun { run, names: held })
+    Ok(held)
 }
 
-// The run stands at the place held under this name. The names stay as they are.
-fn returned(state: NamedRun, name: u8) -> Result<NamedRun, Refusal>
-    ensures { named_stepped state result ≡ return_of state name }
+// The place held under this name.
+fn returned(state: NamedRun, name: u8) -> Result<Place, Refusal>
+    ensures { named_stepped state (onward (at_place state) result) ≡ return_of state name }
 {
     if broken_named(state) {
         return Err(Refusal::Broken);
     }
-    let mut run = state.run;
     let names = state.names;
     let slot = slot_of(names, name);
     if slot == names.count {
@@ -85,47 +74,78 @@ fn returned(state: NamedRun, name: u8) -> Result<NamedRun, Refusal>
     let entries = names.entries;
     let held = entries[slot];
     let place = held.place;
-    run.place = place;
-    Ok(NamedRun { run, names })
+    Ok(place)
 }
 
-// The records of a log, read and applied in turn: the state after them, or the first refusal.
-fn followed(state: NamedRun, log: &[u8]) -> Result<NamedRun, Refusal>
-    ensures { named_stepped state result ≡ log_of state log.now }
+// The records of a log, read and applied in turn: where the run stands after them, or the first refusal.
+fn followed(state: NamedRun, log: &[u8]) -> Result<Place, Refusal>
+    ensures { named_stepped state (onward (at_place state) result) ≡ log_of state log.now }
 {
-    let names = state.names;
     check_before(state.run, log)?;
-    if bad_names(state.run, names) {
+    if bad_names(state.run, state.names) {
         return Err(Refusal::Broken);
     }
-    let last = after_log(state.run, log)?;
-    Ok(NamedRun { run: last, names })
+    place_after(state.run, log)
 }
 
 // The present place is held under this name. A refusal hands back the state given, here and in the other calls.
 pub fn name(state: NamedRun, name: u8) -> NamedStepped
     ensures { result ≡ name_of state name }
 {
-    answered(state, named(state, name))
+    match named(state, name) {
+        Ok(names) => answered(
+            ACCEPTED,
+            NamedRun {
+                run: state.run,
+                names,
+            },
+        ),
+        Err(refusal) => answered(refusal.number(), state),
+    }
 }
 
 // The name is held no longer.
 pub fn drop_name(state: NamedRun, name: u8) -> NamedStepped
     ensures { result ≡ drop_of state name }
 {
-    answered(state, dropped(state, name))
+    match dropped(state, name) {
+        Ok(names) => answered(
+            ACCEPTED,
+            NamedRun {
+                run: state.run,
+                names,
+            },
+        ),
+        Err(refusal) => answered(refusal.number(), state),
+    }
 }
 
-// The run stands at the place held under this name.
+// The run stands at the place held under this name. The names stay as they are.
 pub fn return_to(state: NamedRun, name: u8) -> NamedStepped
     ensures { result ≡ return_of state name }
 {
-    answered(state, returned(state, name))
+    let mut next = state;
+    let number = match returned(state, name) {
+        Ok(held) => {
+            next.run.place = held;
+            ACCEPTED
+        }
+        Err(refusal) => refusal.number(),
+    };
+    answered(number, next)
 }
 
 // The records of a log, read and applied in turn.
 pub fn follow(state: NamedRun, log: &[u8]) -> NamedStepped
     ensures { result ≡ log_of state log.now }
 {
-    answered(state, followed(state, log))
+    let mut next = state;
+    let number = match followed(state, log) {
+        Ok(place) => {
+            next.run.place = place;
+            ACCEPTED
+        }
+        Err(refusal) => refusal.number(),
+    };
+    answered(number, next)
 }

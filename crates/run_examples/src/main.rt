@@ -14,7 +14,9 @@ use units::TASK_LIMIT;
 const LOG_ROOM: usize = 100;
 
 // The bytes of a file, at the front of the buffer; one that cannot be read has none.
-fn read_file<'a>(rt: &HostRuntime, name: &[u8], buf: &'a mut [u8]) -> &'a [u8] {
+fn read_file<'a>(rt: &HostRuntime, name: &[u8], buf: &'a mut [u8]) -> &'a [u8]
+    ensures { length result.now ≤ length buf.old }
+{
     let n = match console::open(rt, name) {
         Ok(mut file) => match console::read_all(&mut file, buf) {
             Ok(n) | Err(Broken { n, .. }) => n,

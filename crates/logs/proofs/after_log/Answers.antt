@@ -1,21 +1,16 @@
--- `logs::after_log` meets its contract: what is tested before the first event, then the records. Assumes nothing.
-use mathlib.Core.Path.{◌≡◌, sym, ◌∙◌, ap}
+-- `logs::after_log` meets its contract: the run at the place that the log leads to, or the same refusal. Assumes nothing.
+use mathlib.Core.Path.{◌≡◌, ◌∙◌}
 use Rattle.std.proofs.Common.{Ok, rules}
 use Rattle.refusals.specs.Checks.{told}
-use Rattle.logs.proofs.Once.{log_refused_told, tested_right, log_tested}
+use Rattle.logs.proofs.Once.{err_stood}
 use Rattle.logs.proofs.after_log.Goals as goal
 
-pub returns-in_err-check_before : goal.returns-in_err-check_before
-returns-in_err-check_before c =
-    let same : told c.from_residual.result ≡ told c.check_before.result = search rules in
-    log_refused_told c.args.run c.args.log.now _ c.from_residual.ensures.0 (same ∙ c.check_before.ensures)
-
-pub followed-requires : goal.followed-requires
-followed-requires c =
-    let passed : c.check_before.result ≡ Ok tt = search rules in
-    tested_right _ c.args.log.now (sym c.check_before.ensures ∙ ap told passed)
+pub returns-in_err-place : goal.returns-in_err-place
+returns-in_err-place c =
+    let same : told c.from_residual.result ≡ told c.place_after.result = search rules in
+    err_stood c.args.run _ _ c.from_residual.ensures.0 same ∙ c.place_after.ensures
 
 pub returns : goal.returns
 returns c =
-    let passed : c.check_before.result ≡ Ok tt = search rules in
-    c.followed.ensures ∙ log_tested c.args.run c.args.log.now (tested_right c.args.run c.args.log.now (sym c.check_before.ensures ∙ ap told passed))
+    let is : c.place_after.result ≡ Ok c.in_ok-place.place = search rules in
+    rw is at c.place_after.ensures

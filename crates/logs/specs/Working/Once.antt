@@ -5,6 +5,7 @@ use Rattle.refusals.specs.Refusals.{refusal, first}
 use Rattle.rules.specs.Rules.{broken}
 use Rattle.following.specs.Run.{standing, accepted, refused}
 use Rattle.following.specs.Working.Lent.{step_on}
+use Rattle.state.specs.declared.Place.{Place}
 use Rattle.state.specs.declared.Run.{Run}
 use Rattle.following.specs.declared.Stepped.{Stepped}
 use Rattle.carried.specs.declared.Carried.{Carried}
@@ -28,6 +29,11 @@ recorded_on s r = cond (eqb s.number 0) (cond (bad_record r) (refused Numbers.ba
 unfoldable pub applied_on : Run → List ℕ → ℕ → Stepped
 applied_on run log zero = accepted run
 applied_on run log (suc k) = recorded_on (applied_on run log k) (record_at log k)
+
+-- the answer that tells where a run stands, or a refusal and the run from before
+abbrev pub stood : (before : Run) → Result Place Refusal → Stepped
+stood before (Ok place) = accepted (standing before place)
+stood before (Err refusal) = refused (number refusal) before
 
 -- the records before k lead to this place, or to this refusal of the run from before them
 abbrev pub Ends : Run → List ℕ → (k : ℕ) → Result Carried Refusal → Type 0

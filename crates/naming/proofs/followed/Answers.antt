@@ -5,13 +5,13 @@ use Rattle.refusals.specs.Checks.{told}
 use Rattle.rules.proofs.Soundness.{run_sound}
 use Rattle.logs.proofs.Once.{tested_right}
 use Rattle.naming.specs.Log.{beside}
-use Rattle.naming.proofs.Once.{named_refused_told, named_bad_names, err_beside, log_beside}
+use Rattle.naming.proofs.Once.{named_refused_told, named_bad_names, place_beside, log_beside}
 use Rattle.naming.proofs.followed.Goals as goal
 
 pub returns-in_err-check_before : goal.returns-in_err-check_before
 returns-in_err-check_before c =
     let same : told c.from_residual.result ≡ told c.check_before.result = search rules in
-    named_refused_told c.args.state c.args.log.now c.from_residual.result c.from_residual.ensures.0 (same ∙ c.check_before.ensures)
+    named_refused_told c.args.state c.args.log.now _ c.from_residual.result c.from_residual.ensures.0 (same ∙ c.check_before.ensures)
 
 pub bad_names-requires : goal.bad_names-requires
 bad_names-requires c =
@@ -23,18 +23,10 @@ returns-then-bad_names c =
     let passed : c.check_before.result ≡ Ok tt = search rules in
     named_bad_names c.args.state c.args.log.now (sym c.check_before.ensures ∙ ap told passed) (sym c.bad_names.ensures ∙ c.if-bad_names.true)
 
-pub returns-in_err-last : goal.returns-in_err-last
-returns-in_err-last c =
-    let state = c.args.state in
-    let right = sym c.bad_names.ensures ∙ c.if-bad_names.false in
-    let same : told c.from_residual-in_err-last.result ≡ told c.after_log.result = search rules in
-    err_beside state c.from_residual-in_err-last.result c.after_log.result c.from_residual-in_err-last.ensures.0 same
-    ∙ ap (beside state.names) c.after_log.ensures
-    ∙ sym (log_beside state.names state.run c.args.log.now right)
-
 pub returns : goal.returns
 returns c =
     let state = c.args.state in
     let right = sym c.bad_names.ensures ∙ c.if-bad_names.false in
-    let passed : c.after_log.result ≡ Ok c.in_ok-last.last = search rules in
-    ap (beside state.names) (rw passed at c.after_log.ensures) ∙ sym (log_beside state.names state.run c.args.log.now right)
+    place_beside state c.place_after.result
+    ∙ ap (beside state.names) c.place_after.ensures
+    ∙ sym (log_beside state.names state.run c.args.log.now right)
