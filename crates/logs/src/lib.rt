@@ -119,7 +119,7 @@ pub fn check_before(run: Run, log: &[u8]) -> Result<(), Refusal>
 }
 
 // The records of a log, read and applied in turn: where the run stands after them, or the first refusal.
-pub fn place_after(run: Run, log: &[u8]) -> Result<Place, Refusal>
+pub fn place_reached(run: Run, log: &[u8]) -> Result<Place, Refusal>
     ensures { stood run result ≡ log_of run log.now }
 {
     check_before(run, log)?;
@@ -130,7 +130,7 @@ pub fn place_after(run: Run, log: &[u8]) -> Result<Place, Refusal>
 pub fn after_log(run: Run, log: &[u8]) -> Result<Run, Refusal>
     ensures { stepped run result ≡ log_of run log.now }
 {
-    let place = place_after(run, log)?;
+    let place = place_reached(run, log)?;
     Ok(Run { place, ..run })
 }
 

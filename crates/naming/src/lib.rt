@@ -5,7 +5,7 @@ ghost use Rattle.std.specs.Prelude.{◌≡◌};
 ghost use Rattle.naming.specs.Calls.{answered, named_stepped, onward, with_names, at_place, name_of, drop_of, return_of};
 ghost use Rattle.naming.specs.Log.{log_of};
 
-use logs::{check_before, place_after};
+use logs::{check_before, place_reached};
 use named::{NamedRun, bad_names, broken_named};
 use names::{Held, NAME_LIMIT, Names, put, slot_of, take_out};
 use refusals::{ACCEPTED, Refusal};
@@ -85,7 +85,7 @@ fn followed(state: NamedRun, log: &[u8]) -> Result<Place, Refusal>
     if bad_names(state.run, state.names) {
         return Err(Refusal::Broken);
     }
-    place_after(state.run, log)
+    place_reached(state.run, log)
 }
 
 // The present place is held under this name. A refusal hands back the state given, here and in the other calls.

@@ -7,10 +7,10 @@ use Rattle.logs.proofs.after_log.Goals as goal
 
 pub returns-in_err-place : goal.returns-in_err-place
 returns-in_err-place c =
-    let same : told c.from_residual.result ≡ told c.place_after.result = search rules in
-    err_stood c.args.run _ _ c.from_residual.ensures.0 same ∙ c.place_after.ensures
+    let same : told c.from_residual.result ≡ told c.place_reached.result = search rules in
+    err_stood c.args.run _ _ c.from_residual.ensures.0 same ∙ c.place_reached.ensures
 
 pub returns : goal.returns
 returns c =
-    let is : c.place_after.result ≡ Ok c.in_ok-place.place = search rules in
-    rw is at c.place_after.ensures
+    let is : c.place_reached.result ≡ Ok c.in_ok-place.place = search rules in
+    rw is at c.place_reached.ensures

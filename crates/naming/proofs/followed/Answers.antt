@@ -27,6 +27,6 @@ pub returns : goal.returns
 returns c =
     let state = c.args.state in
     let right = sym c.bad_names.ensures ∙ c.if-bad_names.false in
-    place_beside state c.place_after.result
-    ∙ ap (beside state.names) c.place_after.ensures
+    place_beside state c.place_reached.result
+    ∙ ap (beside state.names) c.place_reached.ensures
     ∙ sym (log_beside state.names state.run c.args.log.now right)

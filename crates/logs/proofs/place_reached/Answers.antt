@@ -1,9 +1,9 @@
--- `logs::place_after` meets its contract: what is tested before the first event, then the records. Assumes nothing.
+-- `logs::place_reached` meets its contract: what is tested before the first event, then the records. Assumes nothing.
 use mathlib.Core.Path.{◌≡◌, sym, ◌∙◌, ap}
 use Rattle.std.proofs.Common.{Ok, rules}
 use Rattle.refusals.specs.Checks.{told}
 use Rattle.logs.proofs.Once.{log_refused_told, tested_right, log_tested}
-use Rattle.logs.proofs.place_after.Goals as goal
+use Rattle.logs.proofs.place_reached.Goals as goal
 
 pub returns-in_err-check_before : goal.returns-in_err-check_before
 returns-in_err-check_before c =
